@@ -1,0 +1,4 @@
+pub mod Fuse
+pub mod Posts
+pub mod Steps
+pub mod Places

@@ -1,0 +1,6 @@
+use borrow.Author.Needs.{needs}
+use Rattle.actor.proofs.Fuse.{after-dark}
+use Rattle.actor.proofs.acts.Actor.write_forced.Needs as need
+
+pub returns-in-Break-debt : need.returns-in-Break-debt
+returns-in-Break-debt g c = search (needs, after-dark)

@@ -1,0 +1,5 @@
+pub mod Answers
+pub mod Stations
+pub mod State
+pub mod Calls
+pub mod Runs
