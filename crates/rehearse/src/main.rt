@@ -4,6 +4,8 @@ mod scenarios;
 mod script;
 mod words;
 
+use journal::table::Table;
+use journal::table::TableJournal;
 use presumption::Presumption;
 use presumption::abort::AbortPresumed;
 use presumption::abort::PresumedAbort;
@@ -12,6 +14,9 @@ use presumption::commit::PresumedCommit;
 use rehearsal::Rehearsal;
 use script::Scenario;
 use std::io;
+
+/// Each run has so many stations.
+const STATIONS: u8 = 3;
 
 /// How to read what is printed.
 const LEGEND: &str = "Three stations: 0 coordinates revision 0, the only one, and 1 and 2 stage it.
@@ -29,7 +34,8 @@ fn play<P: Presumption + Drop>(
     name: &str,
     presumption: P,
 ) -> io::Result<()> {
-    let mut rehearsal = Rehearsal::new(rt, presumption)?;
+    let journal = Table::new(rt.alloc(), STATIONS)?;
+    let mut rehearsal = Rehearsal::new(rt, journal, presumption)?;
     rehearsal.play(scenario, name)
 }
 

@@ -10,33 +10,29 @@ use crate::script::Power;
 use crate::script::REVISION;
 use crate::script::Scenario;
 use crate::words::Answer;
-use journal::table::Table;
-use journal::table::TableJournal;
+use journal::calls::Journal;
 use presumption::Presumption;
 use run::run::Run;
 use station::sets::StationSet;
 use std::io;
-
-/// Each run has so many stations.
-const STATIONS: u8 = 3;
 
 /// More deliveries than a post can call for: 18 for each of the 64 messages that can wait.
 const MOST_DELIVERIES: u16 = 64 * 18;
 
 /// A run, and where it is told.
 #[derive(Drop)]
-pub struct Rehearsal<'a, P> {
+pub struct Rehearsal<'a, J, P> {
     rt: &'a LibcRuntime,
-    run: Run<Table, P>,
+    run: Run<J, P>,
 }
 
-impl<'a, P: Presumption> Rehearsal<'a, P> {
-    /// A rehearsal of a fresh run.
-    pub fn new(rt: &'a LibcRuntime, presumption: P) -> io::Result<Rehearsal<'a, P>>
+impl<'a, J: Journal, P: Presumption> Rehearsal<'a, J, P> {
+    /// A rehearsal of a fresh run over a journal.
+    pub fn new(rt: &'a LibcRuntime, journal: J, presumption: P) -> io::Result<Rehearsal<'a, J, P>>
     where
+        J: Drop,
         P: Drop,
     {
-        let journal = Table::new(rt.alloc(), STATIONS)?;
         let run = Run::new(rt.alloc(), journal, presumption)?;
         Ok(Rehearsal { rt, run })
     }

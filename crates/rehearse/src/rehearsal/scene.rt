@@ -6,7 +6,6 @@ use crate::script::COORDINATOR;
 use crate::script::Call;
 use crate::script::REVISION;
 use journal::calls::Journal;
-use journal::table::TableJournal;
 use presumption::Presumption;
 
 /// One station and the post.
@@ -64,7 +63,7 @@ impl Scene {
     }
 }
 
-impl<P: Presumption> Rehearsal<'_, P> {
+impl<J: Journal, P: Presumption> Rehearsal<'_, J, P> {
     /// The scene now, at a station.
     pub fn scene(&self, station: u8) -> Scene {
         let (installed, dropped) = match self.run.as_run(REVISION) {

@@ -15,11 +15,10 @@ use crate::words::RecordDisplay;
 use crate::words::Shown;
 use crate::words::SubordinateEntryDisplay;
 use journal::calls::Journal;
-use journal::table::TableJournal;
 use presumption::Presumption;
 use std::io;
 
-impl<P: Presumption> Rehearsal<'_, P> {
+impl<J: Journal, P: Presumption> Rehearsal<'_, J, P> {
     /// The call, with the message that it delivers.
     pub fn tell_call(&self, call: Call) -> io::Result<()> {
         match (call, self.run.message(0)) {
