@@ -1,7 +1,7 @@
 //! The calls of a journal, each by what it does to the journal's meaning.
 ghost use mathlib.Core.List.{List};
 ghost use mathlib.Core.Path.{_≡_};
-ghost use Prim.Native.Nat.{_≤_};
+ghost use Prim.Native.Nat.{ℕ, _≤_};
 ghost use lib.ListN.{length};
 ghost use Rattle.journal.specs.Meaning.{Section, section, held, record-at, answer-of, write-answer, written, served-answer, forced, cut-to};
 use crate::records::Record;
@@ -11,6 +11,9 @@ use crate::refusals::Refusal;
 pub trait Journal {
     // One section for each station served, in the order of their numbers.
     ghost meaning: { Self → List Section };
+
+    // The ghost names of what the journal borrows to write to; no call changes them.
+    ghost lenders: { Self → List ℕ };
 
     /// How many stations are served.
     fn stations(&self) -> u8
@@ -37,15 +40,18 @@ pub trait Journal {
     /// Puts a record at the end of the station's unforced list.
     fn write(&mut self, station: u8, line: Record) -> Result<(), Refusal>
         ensures answer { λ r. ⌜ answer-of r ≡ write-answer (meaning (now (self .entry))) station ⌝ }
-        ensures after { λ _. ⌜ meaning (now (self .exit)) ≡ written line (meaning (now (self .entry))) station ⌝ };
+        ensures after { λ _. ⌜ meaning (now (self .exit)) ≡ written line (meaning (now (self .entry))) station ⌝ }
+        ensures lent { λ _. ⌜ lenders (now (self .exit)) ≡ lenders (now (self .entry)) ⌝ };
 
     /// Moves all unforced records of the station, in order, to the end of its stable list.
     fn force(&mut self, station: u8) -> Result<(), Refusal>
         ensures answer { λ r. ⌜ answer-of r ≡ served-answer (meaning (now (self .entry))) station ⌝ }
-        ensures after { λ _. ⌜ meaning (now (self .exit)) ≡ forced (meaning (now (self .entry))) station ⌝ };
+        ensures after { λ _. ⌜ meaning (now (self .exit)) ≡ forced (meaning (now (self .entry))) station ⌝ }
+        ensures lent { λ _. ⌜ lenders (now (self .exit)) ≡ lenders (now (self .entry)) ⌝ };
 
     /// The power fails at the station: the first `kept` unforced records become stable, the rest are lost.
     fn cut(&mut self, station: u8, kept: usize) -> Result<(), Refusal>
         ensures answer { λ r. ⌜ answer-of r ≡ served-answer (meaning (now (self .entry))) station ⌝ }
-        ensures after { λ _. ⌜ meaning (now (self .exit)) ≡ cut-to kept (meaning (now (self .entry))) station ⌝ };
+        ensures after { λ _. ⌜ meaning (now (self .exit)) ≡ cut-to kept (meaning (now (self .entry))) station ⌝ }
+        ensures lent { λ _. ⌜ lenders (now (self .exit)) ≡ lenders (now (self .entry)) ⌝ };
 }

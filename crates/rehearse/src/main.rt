@@ -1,4 +1,5 @@
-//! Rehearses runs of the commit engine under both presumptions, and tells each call.
+//! Rehearses runs of the commit engine under both presumptions and over three journals, and tells each call.
+mod journals;
 mod rehearsal;
 mod scenarios;
 mod script;
@@ -6,17 +7,14 @@ mod words;
 
 use journal::table::Table;
 use journal::table::TableJournal;
-use presumption::Presumption;
 use presumption::abort::AbortPresumed;
 use presumption::abort::PresumedAbort;
 use presumption::commit::CommitPresumed;
 use presumption::commit::PresumedCommit;
-use rehearsal::Rehearsal;
+use rehearsal::play;
+use script::STATIONS;
 use script::Scenario;
 use std::io;
-
-/// Each run has so many stations.
-const STATIONS: u8 = 3;
 
 /// How to read what is printed.
 const LEGEND: &str = "Three stations: 0 coordinates revision 0, the only one, and 1 and 2 stage it.
@@ -27,26 +25,22 @@ Records of a station: p prepared, c committed, a aborted, each under its coordin
 fuse F, kept K: in a step of more acts, power fails after F, and K unforced records are kept.
 Not told: a mark that was there before, and a record that is lost in the call that wrote it.";
 
-// A scenario under one presumption, in a fresh run.
-fn play<P: Presumption + Drop>(
-    rt: &LibcRuntime,
-    scenario: &Scenario,
-    name: &str,
-    presumption: P,
-) -> io::Result<()> {
-    let journal = Table::new(rt.alloc(), STATIONS)?;
-    let mut rehearsal = Rehearsal::new(rt, journal, presumption)?;
-    rehearsal.play(scenario, name)
+// A scenario under both presumptions, over tables.
+fn play_both(rt: &LibcRuntime, scenario: &Scenario) -> io::Result<()> {
+    let table = Table::new(rt.alloc(), STATIONS)?;
+    let _ = play(rt, scenario, "presumed abort", table, PresumedAbort)?;
+    let table = Table::new(rt.alloc(), STATIONS)?;
+    let _ = play(rt, scenario, "presumed commit", table, PresumedCommit)?;
+    Ok(())
 }
 
-// The legend, and then each scenario under both presumptions.
+// The legend, each scenario under both presumptions, and then one of them over each journal.
 fn rehearse(rt: &LibcRuntime) -> io::Result<()> {
     rt.println(LEGEND)?;
     for scenario in &scenarios::ALL {
-        play(rt, scenario, "presumed abort", PresumedAbort)?;
-        play(rt, scenario, "presumed commit", PresumedCommit)?;
+        play_both(rt, scenario)?;
     }
-    Ok(())
+    journals::compare(rt)
 }
 
 fn main(rt: LibcRuntime) -> io::Result<()> {

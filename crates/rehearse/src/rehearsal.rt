@@ -26,9 +26,29 @@ pub struct Rehearsal<'a, J, P> {
     run: Run<J, P>,
 }
 
+/// What became of the revision: the bits of the stations where it is installed, and where dropped.
+#[derive(Clone, Copy, PartialEq, Eq)]
+pub struct Fate {
+    installed: u8,
+    dropped: u8,
+}
+
+/// Plays a scenario in a fresh run over a journal. Answers what became of its revision.
+pub fn play<J: Journal + Drop, P: Presumption + Drop>(
+    rt: &LibcRuntime,
+    scenario: &Scenario,
+    name: &str,
+    journal: J,
+    presumption: P,
+) -> io::Result<Fate> {
+    let mut rehearsal = Rehearsal::new(rt, journal, presumption)?;
+    rehearsal.play(scenario, name)?;
+    Ok(rehearsal.fate())
+}
+
 impl<'a, J: Journal, P: Presumption> Rehearsal<'a, J, P> {
-    /// A rehearsal of a fresh run over a journal.
-    pub fn new(rt: &'a LibcRuntime, journal: J, presumption: P) -> io::Result<Rehearsal<'a, J, P>>
+    // A rehearsal of a fresh run over a journal.
+    fn new(rt: &'a LibcRuntime, journal: J, presumption: P) -> io::Result<Rehearsal<'a, J, P>>
     where
         J: Drop,
         P: Drop,
@@ -37,14 +57,28 @@ impl<'a, J: Journal, P: Presumption> Rehearsal<'a, J, P> {
         Ok(Rehearsal { rt, run })
     }
 
-    /// Plays a scenario, from its heading to what became of its revision.
-    pub fn play(&mut self, scenario: &Scenario, name: &str) -> io::Result<()> {
+    // Plays a scenario, from its heading to what became of its revision.
+    fn play(&mut self, scenario: &Scenario, name: &str) -> io::Result<()> {
         let title = scenario.title;
         println!(self.rt, "\n== {name}: {title}")?;
         for cue in scenario.cues {
             self.follow(*cue)?;
         }
         self.show_revision()
+    }
+
+    // What became of the revision so far.
+    fn fate(&self) -> Fate {
+        match self.run.as_run(REVISION) {
+            Some(row) => Fate {
+                installed: row.installed.bits(),
+                dropped: row.dropped.bits(),
+            },
+            None => Fate {
+                installed: 0,
+                dropped: 0,
+            },
+        }
     }
 
     // Does what the cue says.

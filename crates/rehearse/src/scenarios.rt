@@ -82,7 +82,7 @@ const VOTE_KEPT: Scenario = Scenario {
 };
 
 // Station 1 comes back in doubt where its committed record was not forced; else it may not inquire.
-const OUTCOME_LOST: Scenario = Scenario {
+pub const OUTCOME_LOST: Scenario = Scenario {
     title: "station 1 loses power after the commit",
     cues: &[
         OPEN,

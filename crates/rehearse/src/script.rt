@@ -1,5 +1,8 @@
 //! Scripts: a scenario is a list of cues, and most cues are a call of the engine.
 
+/// Each run has so many stations.
+pub const STATIONS: u8 = 3;
+
 /// Who coordinates the revision of each scenario.
 pub const COORDINATOR: u8 = 0;
 

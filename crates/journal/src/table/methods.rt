@@ -109,6 +109,8 @@ impl Table {
 pub impl Journal for Table as TableJournal {
     ghost meaning = { table-sections };
 
+    ghost lenders = { λ _. [] };
+
     fn stations(&self) -> u8 {
         self.count()
     }

@@ -7,6 +7,7 @@ pub returns-in-Some : need.returns-in-Some
 returns-in-Some c = record {
   answer = answer-at (vec-items (c .args .self .now .stations)) (c .args .station) (c .in-Some .records .now) (search needs) (search needs) _ (c .write .ensures .answer);
   after = search (needs, written-at);
+  lent = search needs;
 }
 
 pub returns-in-None : need.returns-in-None

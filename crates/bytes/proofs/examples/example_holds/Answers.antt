@@ -1,0 +1,18 @@
+use mathlib.Core.Path.{refl}
+use Rattle.bytes.proofs.examples.example_holds.Needs as need
+
+pub returns : need.returns
+returns c = record {
+  taken = refl;
+  not-a-record = refl;
+  not-counted = refl;
+  too-many = refl;
+  forces = refl;
+  cuts-all = refl;
+  cuts-none = refl;
+  writes = refl;
+  full = refl;
+  not-served = refl;
+  reads = refl;
+  reads-no-further = refl;
+}
