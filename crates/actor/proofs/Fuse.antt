@@ -1,16 +1,14 @@
 -- Acts under a fuse.
 use mathlib.Core.Path.{_≡_, refl, sym, ap, _∙_}
-use mathlib.Core.Bool.{Bool, true, false, cond}
+use mathlib.Core.Bool.{true, false}
 use mathlib.Core.List.{List, [], _∷_, _++_}
-use Prim.Native.Nat.{ℕ, zero, suc, _+_, _-_, _≤_, _<_, min}
-use native.Mathlib.Omega.{arith}
+use Prim.Native.Nat.{ℕ, _+_, _-_}
 use borrow.Author.Tests.{ne-eqb}
-use lib.ListN.{length, take}
-use Rattle.actor.specs.Acting.{Acting, begun, failed, did, after, performed, shorter}
+use Rattle.actor.specs.Acting.{Acting, failed, did, after, performed, shorter}
 use Rattle.presumption.specs.declared.outcome.Outcome.{Outcome}
 use Rattle.presumption.specs.declared.outcome.Outcome.the-variants.{Commit, Abort}
 use Rattle.actor.specs.Log.{marked}
-use Rattle.actor.specs.Store.{Store, store, done, all-done, journal-cut}
+use Rattle.actor.specs.Store.{Store, store, done}
 use Rattle.station.specs.Acts.{Act, mark}
 
 pub after-dark : (a : Act) (l : Acting) → l .dark ≡ true → after a l ≡ l

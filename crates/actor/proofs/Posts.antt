@@ -1,10 +1,9 @@
 -- Posting to the members of a set, one after the other.
-use mathlib.Core.Path.{_≡_, refl, sym, ap, _∙_}
+use mathlib.Core.Path.{_≡_, ap}
 use mathlib.Core.Bool.{true, false}
-use mathlib.Core.List.{List, [], _∷_, map}
+use mathlib.Core.List.{map}
 use Prim.Native.Nat.{ℕ, _+_, _<_}
 use Rattle.actor.specs.Acting.{Acting, after, performed}
-use Rattle.actor.proofs.Fuse.{dark-performed}
 use Rattle.station.proofs.Members.{members-from, members-all, members-in, members-out, members-end}
 use Rattle.station.specs.Acts.{Act}
 use Rattle.station.specs.Sets.{holds, members}

@@ -1,14 +1,13 @@
 -- A whole step under a fuse: what performing its acts one by one comes to.
 use mathlib.Core.Path.{_≡_, refl, sym, ap, _∙_}
-use mathlib.Core.Bool.{Bool, true, false, cond}
+use mathlib.Core.Bool.{true}
 use mathlib.Core.List.{List, [], _∷_}
 use mathlib.Core.Logic.{⊎-elim}
-use Prim.Native.Nat.{ℕ, zero, suc, _+_, _-_, _≤_, _<_, min}
+use Prim.Native.Nat.{ℕ, zero, suc, _-_, _≤_, _<_, min}
 use native.Mathlib.Omega.{arith}
-use lib.Dec.{ltb}
 use lib.ListN.{length, take}
 use Rattle.actor.proofs.Fuse.{after-fails, after-does, dark-performed}
-use Rattle.actor.specs.Acting.{Acting, begun, failed, did, after, performed}
+use Rattle.actor.specs.Acting.{Acting, begun, failed, did, performed}
 use Rattle.actor.specs.Store.{Store, done, all-done, journal-cut, burns, done-under-fuse}
 use Rattle.station.specs.Acts.{Act}
 use Rattle.std.proofs.shelf.Tests.{cases-lt, lt-ltb, le-ltb, cond-true, cond-false}

@@ -19,6 +19,7 @@ pub record Store : Type 0 where
   pub post : List Message
   pub log : List Row
 
+-- A store by its parts.
 abbrev pub store : List Section → List Message → List Row → Store
 store j p l = record { journal = j; post = p; log = l }
 

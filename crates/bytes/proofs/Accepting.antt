@@ -15,10 +15,9 @@ use Rattle.journal.specs.Bytes.{record-from, decoded}
 use Rattle.journal.specs.Limits.{record-bytes}
 use Rattle.journal.specs.declared.records.Record.{Record}
 use Rattle.std.proofs.shelf.Lists.{drop-drop, length-drop, getD-drop}
-use Rattle.std.proofs.shelf.Tests.{cases-lt, cases-eq, and-parts, and-from, leb-true, le-leb}
+use Rattle.std.proofs.shelf.Tests.{cases-lt, cases-eq, and-parts, and-from, leb-true}
 use Rattle.std.proofs.shelf.Ways.{tells}
 use Rattle.std.specs.Options.{isSome}
-use Rattle.std.specs.declared.option.Option.{Option}
 use Rattle.std.specs.declared.option.Option.the-variants.{Some, None}
 
 -- One record more, or one that is none.

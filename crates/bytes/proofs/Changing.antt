@@ -1,18 +1,18 @@
 -- What the bytes after a call mean.
 use mathlib.Core.Path.{_≡_, refl, sym, ap, _∙_}
 use mathlib.Core.Logic.{⊎-elim, inl, inr}
-use mathlib.Core.List.{List, [], _++_, _∷_}
+use mathlib.Core.List.{List, [], _++_}
 use Prim.Native.Nat.{ℕ, _+_, _<_, _≤_, min}
 use native.Mathlib.Omega.{arith}
 use lib.ListN.{length, take}
 use Rattle.bytes.proofs.Counting.{counted-same, counted-joined, counted-take}
 use Rattle.bytes.proofs.Putting.{Only, stable-other, stable-long, stable-first, stable-second, stable-records, added-outside, added-long, added-first, added-second, added-there, added-before}
-use Rattle.bytes.proofs.Sections.{within-bytes, size-small, length-sections, section-there, sections-changed}
+use Rattle.bytes.proofs.Sections.{within-bytes, length-sections, section-there, sections-changed}
 use Rattle.bytes.specs.Changes.{record-added, first-kept, bytes-written, bytes-kept, bytes-forced, bytes-cut}
 use Rattle.bytes.specs.Layout.{counts-bytes, capacity-of, stable-count, unforced-count, record-start, fallback, record-in, records-in, section-in, size-of, start-of, stable-of, unforced-of, room-of, sections}
 use Rattle.journal.proofs.Laws.{put-in, changed-nothing, changed-same, written-is}
 use Rattle.journal.specs.Limits.{record-bytes}
-use Rattle.journal.specs.Meaning.{Section, section, section-of, held, changed, put, written, force-all, forced, keep-first, cut-to}
+use Rattle.journal.specs.Meaning.{Section, section-of, held, changed, put, written, force-all, forced, keep-first, cut-to}
 use Rattle.journal.specs.declared.records.Record.{Record}
 use Rattle.std.proofs.shelf.Counted.{length-map-counting, map-counting-more}
 use Rattle.std.proofs.shelf.Tests.{cases-lt, lt-ltb, le-ltb, cond-true, cond-false}

@@ -1,8 +1,8 @@
 -- The bytes of a journal stay a journal's: they are sound from its making on, and every call keeps them so.
 use mathlib.Core.Path.{_≡_, refl, sym, ap, subst, _∙_}
-use mathlib.Core.Bool.{true, false, cond, _&&_}
+use mathlib.Core.Bool.{true, _&&_}
 use mathlib.Core.Logic.{_⊎_, ⊎-elim, inl, inr}
-use mathlib.Core.List.{List, _++_}
+use mathlib.Core.List.{List}
 use Prim.Native.Nat.{ℕ, _+_, _/_, _<_, _≤_, min}
 use native.Mathlib.Omega.{arith}
 use lib.Dec.{leb}
@@ -10,19 +10,17 @@ use lib.ListN.{length}
 use Rattle.bytes.proofs.Accepting.{AcceptedAt, accepted-parts, accepted-from, each-accepted, accepted-changed}
 use Rattle.bytes.proofs.Changing.{all-records, held-in, added-only, kept-only}
 use Rattle.bytes.proofs.Putting.{Only, stable-first, stable-second, stable-records, added-first, added-second, added-there, added-before, stable-long, added-long}
-use Rattle.bytes.proofs.Sections.{within-bytes, section-there, stable-there, unforced-there}
+use Rattle.bytes.proofs.Sections.{within-bytes, section-there}
 use Rattle.bytes.specs.Changes.{record-added, first-kept, bytes-written, bytes-kept, bytes-forced, bytes-cut}
 use Rattle.bytes.specs.Laws.{Exact, Sound}
-use Rattle.bytes.specs.Layout.{most-bytes, counts-bytes, capacity-of, count-from, stable-count, unforced-count, record-start, fallback, record-in, records-in, section-in, size-of, start-of, stable-of, unforced-of, room-of, sections}
+use Rattle.bytes.specs.Layout.{most-bytes, counts-bytes, capacity-of, stable-count, unforced-count, record-start, fallback, record-in, records-in, section-in, size-of, start-of, stable-of, unforced-of, room-of, sections}
 use Rattle.bytes.specs.Opening.{counted, accepted, all-accepted, served-in}
 use Rattle.journal.specs.Bytes.{record-from}
 use Rattle.journal.specs.Limits.{most-stations, record-bytes}
-use Rattle.journal.specs.Meaning.{Section, section, held}
 use Rattle.journal.specs.declared.records.Record.{Record}
 use Rattle.std.proofs.shelf.Counted.{length-map-counting, getD-map-counting}
 use Rattle.std.proofs.shelf.Maps.{nth-getD}
 use Rattle.std.proofs.shelf.Tests.{cases-lt, cases-eq, cases-bool, and-parts, and-from, leb-true, le-leb, lt-ltb, le-ltb, cond-true, cond-false}
-use Rattle.std.proofs.shelf.Ways.{tells}
 use Rattle.std.specs.Finite.{nth}
 use Rattle.std.specs.Options.{valueOr, isSome}
 use Rattle.std.specs.declared.option.Option.{Option}

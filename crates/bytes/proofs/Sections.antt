@@ -1,14 +1,14 @@
 -- The sections that bytes hold: where they lie, and what a change inside one of them leaves of the others.
-use mathlib.Core.Path.{_≡_, refl, sym, ap, _∙_}
-use mathlib.Core.Logic.{_⊎_, inl, inr, _≢_}
-use mathlib.Core.List.{List, [], _++_, _∷_, map}
+use mathlib.Core.Path.{_≡_, sym, ap, _∙_}
+use mathlib.Core.Logic.{inl, inr, _≢_}
+use mathlib.Core.List.{List, map}
 use Prim.Native.Nat.{ℕ, _+_, _*_, _/_, _<_, _≤_, min}
 use native.Mathlib.Nat.{mul-le-mul-right, add-mul, mul-div-le, div-le-self}
 use native.Mathlib.Omega.{arith}
 use lib.ListN.{length, set}
 use Rattle.bytes.proofs.Counting.{counted-same, counted-set}
 use Rattle.bytes.proofs.Putting.{Same, count-same, record-same, Only}
-use Rattle.bytes.specs.Layout.{most-bytes, capacity-of, stable-count, unforced-count, record-start, fallback, record-in, records-in, section-in, size-of, start-of, stable-of, unforced-of, room-of, sections}
+use Rattle.bytes.specs.Layout.{most-bytes, capacity-of, stable-count, unforced-count, record-start, fallback, record-in, section-in, size-of, start-of, stable-of, unforced-of, room-of, sections}
 use Rattle.journal.specs.Meaning.{Section, section, no-section, changed}
 use Rattle.std.proofs.shelf.Counted.{length-map-counting, getD-map-counting}
 use Rattle.std.proofs.shelf.Lists.{getD-past}

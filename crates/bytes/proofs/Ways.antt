@@ -3,7 +3,6 @@ use mathlib.Core.Path.{_≡_, sym, ap, subst, _∙_}
 use mathlib.Core.List.{List}
 use Prim.Native.Nat.{ℕ, _+_, _*_, _<_, _≤_}
 use native.Mathlib.Omega.{arith}
-use lib.ListN.{length}
 use Rattle.bytes.proofs.Changing.{written-means, forced-means, cut-means}
 use Rattle.bytes.proofs.Keeping.{written-sound, forced-sound, cut-sound}
 use Rattle.bytes.proofs.Sections.{within-bytes, size-small, length-sections, section-there, capacity-there, stable-there, unforced-there}

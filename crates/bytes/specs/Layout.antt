@@ -61,19 +61,23 @@ section-in bs start size =
     (records-in bs start 0 (stable-count bs start size))
     (records-in bs start (stable-count bs start size) (unforced-count bs start size))
 
--- The same for station s of n: where its section starts, how long it is, what it counts and has room for.
+-- The size of each section of n stations.
 abbrev pub size-of : List ℕ → ℕ → ℕ
 size-of bs n = section-size (length bs) n
 
+-- Where the section of station s starts.
 abbrev pub start-of : List ℕ → ℕ → ℕ → ℕ
 start-of bs n s = s * size-of bs n
 
+-- How many stable records it has.
 abbrev pub stable-of : List ℕ → ℕ → ℕ → ℕ
 stable-of bs n s = stable-count bs (start-of bs n s) (size-of bs n)
 
+-- How many unforced ones.
 abbrev pub unforced-of : List ℕ → ℕ → ℕ → ℕ
 unforced-of bs n s = unforced-count bs (start-of bs n s) (size-of bs n)
 
+-- How many records each section has room for.
 abbrev pub room-of : List ℕ → ℕ → ℕ
 room-of bs n = capacity-of (size-of bs n)
 

@@ -1,4 +1,4 @@
--- Some sizes, worked out.
+-- Sizes that callers count on, worked out.
 use mathlib.Core.Bool.{Bool, true, _&&_}
 use mathlib.Core.List.{List, [], _∷_}
 use mathlib.Core.Path.{_≡_}
@@ -13,9 +13,11 @@ pub record Row : Type 0 where
   pub size : ℕ
   pub capacity : ℕ
 
+-- One row, in that order.
 abbrev pub row : ℕ → ℕ → ℕ → ℕ → Row
 row n l z k = record { stations = n; bytes = l; size = z; capacity = k }
 
+-- The rows: with 5,152 bytes eight stations have room for 160 records each, with one byte less for 159.
 abbrev pub sizes : List Row
 sizes =
     row 8 5152 644 160
@@ -33,5 +35,6 @@ abbrev pub right : List Row → Bool
 right [] = true
 right (x ∷ xs) = (eqb (section-size (x .bytes) (x .stations)) (x .size) && eqb (capacity-of (x .size)) (x .capacity)) && right xs
 
+-- All rows are right.
 abbrev pub Sizes : Type 0
 Sizes = right sizes ≡ true

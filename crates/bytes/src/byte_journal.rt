@@ -26,7 +26,7 @@ pub struct ByteJournal<'a> {
     stations: u8,
 }
 
-// A journal serves no more stations than any does.
+// How many stations a journal serves whose field says so many. `new` makes none with more than the most.
 fn at_most(stations: u8) -> u8
     ensures { λ r. ⌜ r ≡ min stations most-stations ⌝ }
 {

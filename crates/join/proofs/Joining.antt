@@ -1,16 +1,13 @@
 -- The sections of two journals as those of one: where each stands, and what a change of one of them makes of the whole.
 use mathlib.Core.Path.{_≡_, refl, sym, ap, subst, _∙_}
 use mathlib.Core.Logic.{⊎-elim}
-use mathlib.Core.Bool.{Bool, cond}
 use mathlib.Core.List.{List, [], _∷_, _++_}
 use Prim.Native.Nat.{ℕ, zero, suc, min, _+_, _-_, _<_, _≤_}
 use native.Mathlib.Omega.{arith}
-use lib.Dec.{ltb}
 use lib.ListN.{length, set, take}
 use Rattle.join.specs.Together.{together, Stands, Missing}
 use Rattle.join.specs.Parts.{part-of, Lies}
 use Rattle.join.specs.declared.Part.{Part}
-use Rattle.join.specs.declared.Part.the-variants.{First, Second, NotServed}
 use Rattle.journal.specs.Limits.{most-stations}
 use Rattle.journal.specs.Meaning.{Section, section, no-section, changed, force-all, keep-first}
 use Rattle.journal.proofs.Laws.{room-answer, put-in, changed-nothing, served-yes, served-no, write-yes, write-no, written-is, written-nothing}

@@ -29,6 +29,7 @@ pub record Section : Type 0 where
   pub stable : List Record
   pub unforced : List Record
 
+-- A section by its parts.
 abbrev pub section-of : ℕ → List Record → List Record → Section
 section-of n xs ys = record { capacity = n; stable = xs; unforced = ys }
 

@@ -4,7 +4,7 @@ use mathlib.Core.Bool.{Bool, true, false}
 use Rattle.presumption.specs.declared.outcome.Outcome.{Outcome}
 use Rattle.presumption.specs.declared.outcome.Outcome.the-variants.{Commit, Abort}
 use Rattle.presumption.specs.declared.outcome.Logging.{Logging}
-use Rattle.presumption.specs.declared.outcome.Logging.the-variants.{NotAtAll, Unforced, Forced}
+use Rattle.presumption.specs.declared.outcome.Logging.the-variants.{NotAtAll, Unforced}
 
 -- What a presumption answers: the outcome presumed, whether an opening record is forced, which outcomes
 -- subordinates acknowledge, which of their outcome records they force, how the coordinator logs an abort.

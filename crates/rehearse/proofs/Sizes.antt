@@ -1,12 +1,12 @@
 -- Eight stations need 5,152 bytes.
-use mathlib.Core.Bool.{Bool, true, false, _&&_}
+use mathlib.Core.Bool.{false, _&&_}
 use mathlib.Core.List.{List, _∷_, map}
-use mathlib.Core.Path.{_≡_, refl, ap, _∙_}
+use mathlib.Core.Path.{_≡_, refl, ap}
 use Prim.Native.Nat.{ℕ}
 use lib.Dec.{eqb, leb}
 use lib.ListN.{length}
 use Rattle.bytes.specs.Layout.{section-size, capacity-of, size-of, start-of, section-in, sections}
-use Rattle.bytes.specs.Opening.{opened, all-accepted}
+use Rattle.bytes.specs.Opening.{all-accepted}
 use Rattle.journal.specs.Meaning.{Section}
 use Rattle.journal.specs.Limits.{most-stations}
 use Rattle.run.specs.State.{least-capacity, ready, all-ready, fits}

@@ -1,12 +1,12 @@
 -- The stations of a set, one after the other.
-use mathlib.Core.Path.{_≡_, refl, sym, ap, _∙_}
-use mathlib.Core.Bool.{Bool, true, false, _&&_}
-use mathlib.Core.List.{List, [], _∷_}
+use mathlib.Core.Path.{_≡_, sym, ap, _∙_}
+use mathlib.Core.Bool.{true, false, _&&_}
+use mathlib.Core.List.{List}
 use Prim.Native.Nat.{ℕ, _+_, _<_}
 use Rattle.run.specs.Stations.{power-at, all-power, with-subordinate, activated}
 use Rattle.run.specs.declared.stations.Station.{Station}
-use Rattle.station.proofs.Members.{members-from, members-all, members-in, members-out, members-end}
-use Rattle.station.specs.Sets.{holds, members}
+use Rattle.station.proofs.Members.{members-from, members-in, members-out, members-end}
+use Rattle.station.specs.Sets.{holds}
 use Rattle.station.specs.declared.sets.StationSet.{StationSet}
 use Rattle.station.specs.declared.subordinate.SubordinateEntry.the-variants.{Active}
 

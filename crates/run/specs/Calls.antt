@@ -7,7 +7,7 @@ use lib.ListN.{length, getD}
 use Rattle.presumption.specs.Answers.{Answers}
 use Rattle.run.specs.Answers.{Answer, refused, answered, number}
 use Rattle.actor.specs.Log.{most-revisions, row-at}
-use Rattle.run.specs.State.{State, with-store, with-stations, cut-off, stepped, restarted}
+use Rattle.run.specs.State.{State, with-store, cut-off, stepped, restarted}
 use Rattle.run.specs.Stations.{power-at, all-power, coordinator-at, subordinate-at, with-coordinator, activated}
 use Rattle.actor.specs.Store.{with-row, less}
 use Rattle.run.specs.declared.refusals.Refusal.{Refusal}
@@ -37,6 +37,7 @@ pub record Reply : Type 0 where
   pub answer : Answer
   pub state : State
 
+-- A reply by its parts.
 abbrev pub reply : Answer → State → Reply
 reply a st = record { answer = a; state = st }
 
@@ -118,6 +119,7 @@ opened c set st =
       stations = activated r c (members set) (with-coordinator c r (Open set) (st .stations));
     }
 
+-- Open: it answers the number of the new revision.
 abbrev pub open-call : ℕ → StationSet → State → Reply
 open-call c set st =
     asked (fit? st ∷ named? c set st ∷ all-power? c set st ∷ room? st ∷ []) st
@@ -135,12 +137,15 @@ coordinator-call π r m f k st = asked (coordinator-questions r st) st (if-allow
 abbrev pub coordinator-entry : ℕ → State → CoordinatorEntry
 coordinator-entry r st = coordinator-at (st .stations) (coordinator-of r st) r
 
+-- Close revision r: its coordinator opens the vote.
 abbrev pub close-call : Answers → ℕ → ℕ → ℕ → State → Reply
 close-call π r f k st = coordinator-call π r (close-move (coordinator-entry r st)) f k st
 
+-- Give up revision r: its coordinator decides abort.
 abbrev pub give-up-call : Answers → ℕ → ℕ → ℕ → State → Reply
 give-up-call π r f k st = coordinator-call π r (give-up-move π (coordinator-entry r st)) f k st
 
+-- Chase revision r: its coordinator tells the outcome again to those awaited.
 abbrev pub chase-call : Answers → ℕ → ℕ → ℕ → State → Reply
 chase-call π r f k st = coordinator-call π r (chase-move (coordinator-entry r st)) f k st
 
@@ -152,9 +157,11 @@ subordinate-questions r s st = fit? st ∷ there? s st ∷ opened? r st ∷ powe
 abbrev pub subordinate-call : Answers → ℕ → ℕ → Option (Move SubordinateEntry) → ℕ → ℕ → State → Reply
 subordinate-call π r s m f k st = asked (subordinate-questions r s st) st (if-allowed π s r (mapped (turning Subordinate) m) f k st)
 
+-- Reject revision r at station s, before the vote.
 abbrev pub reject-call : Answers → ℕ → ℕ → ℕ → ℕ → State → Reply
 reject-call π r s f k st = subordinate-call π r s (reject-move (subordinate-at (st .stations) s r)) f k st
 
+-- Inquire at station s about revision r, which it is in doubt about.
 abbrev pub inquire-call : Answers → ℕ → ℕ → ℕ → ℕ → State → Reply
 inquire-call π r s f k st = subordinate-call π r s (inquire-move (subordinate-at (st .stations) s r)) f k st
 
@@ -188,11 +195,14 @@ message-questions i st = fit? st ∷ waits? i st ∷ []
 abbrev pub deliver-call : Answers → ℕ → Bool → ℕ → ℕ → State → Reply
 deliver-call π i copy f k st = asked (message-questions i st) st (handed π (message-at i st) f k (cond copy st (removed i st)))
 
+-- Lose: the message at place i is removed, and nobody hears it.
 abbrev pub lose-call : ℕ → State → Reply
 lose-call i st = asked (message-questions i st) st (reply (answered 0) (removed i st))
 
+-- Cut: the power fails at station s between two steps, with k records kept.
 abbrev pub cut-call : ℕ → ℕ → State → Reply
 cut-call s k st = asked (fit? st ∷ there? s st ∷ power? s st ∷ []) st (reply (answered 0) (cut-off s k st))
 
+-- Restart: the power returns at station s.
 abbrev pub restart-call : Answers → ℕ → State → Reply
 restart-call π s st = asked (fit? st ∷ there? s st ∷ dark? s st ∷ []) st (reply (answered 0) (restarted π s st))

@@ -27,6 +27,7 @@ pub record Progress : Type 0 where
   pub state : State
   pub deliveries : ℕ
 
+-- A progress by its parts.
 abbrev pub progress : State → ℕ → Progress
 progress st n = record { state = st; deliveries = n }
 

@@ -23,9 +23,11 @@ pub record State : Type 0 where
   pub store : Store
   pub stations : List Station
 
+-- The same run with another store.
 abbrev pub with-store : Store → State → State
 with-store w st = record { fit = st .fit; store = w; stations = st .stations }
 
+-- The same run with other stations.
 abbrev pub with-stations : List Station → State → State
 with-stations xs st = record { fit = st .fit; store = st .store; stations = xs }
 

@@ -9,6 +9,7 @@ pub record Move (E : Type 0) : Type 0 where
   pub step : Step
   pub next : E
 
+-- A move by its parts.
 abbrev pub move : {E : Type 0} → Step → E → Move E
 move x e = record { step = x; next = e }
 

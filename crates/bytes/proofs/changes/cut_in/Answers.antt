@@ -1,6 +1,5 @@
 use Prim.Native.Nat.{_≤_}
-use mathlib.Core.Path.{_≡_, _∙_}
-use native.Mathlib.Omega.{arith}
+use mathlib.Core.Path.{_∙_}
 use Rattle.bytes.proofs.Ways.{cut-done, kept-past, kept-none, kept-some, refused, is-served}
 use Rattle.bytes.proofs.changes.cut_in.Needs as need
 

@@ -1,6 +1,5 @@
 use Prim.Native.Nat.{_≤_}
-use mathlib.Core.Path.{_≡_, _∙_}
-use native.Mathlib.Omega.{arith}
+use mathlib.Core.Path.{_∙_}
 use Rattle.bytes.proofs.Ways.{force-done, kept-past, kept-none, kept-some, refused, is-served}
 use Rattle.bytes.proofs.changes.force_in.Needs as need
 

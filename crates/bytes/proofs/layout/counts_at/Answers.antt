@@ -1,4 +1,3 @@
-use mathlib.Core.Path.{_≡_, ap, subst, _∙_}
 use borrow.Author.Needs.{needs}
 use native.Mathlib.Omega.{arith}
 use Rattle.bytes.proofs.Sections.{within-bytes, length-sections, section-gone}

@@ -1,4 +1,4 @@
-use mathlib.Core.Path.{_≡_, sym, ap, _∙_}
+use mathlib.Core.Path.{sym, ap, _∙_}
 use Rattle.bytes.proofs.Accepting.{decoded-drop}
 use Rattle.bytes.proofs.layout.record_from.Needs as need
 use Rattle.bytes.specs.Layout.{fallback}

@@ -1,4 +1,4 @@
-use mathlib.Core.Path.{sym, _∙_}
+use mathlib.Core.Path.{sym}
 use native.Mathlib.Omega.{arith}
 use Rattle.journal.specs.Meaning.{section}
 use Rattle.station.proofs.Finds.{found-here, found-later, found-past, found-nowhere}

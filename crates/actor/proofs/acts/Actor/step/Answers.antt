@@ -1,4 +1,4 @@
-use mathlib.Core.Path.{_≡_, refl, sym, ap, _∙_}
+use mathlib.Core.Path.{_≡_, ap, _∙_}
 use Prim.Native.Nat.{_-_}
 use Rattle.actor.specs.Acting.{Acting, begun, performed}
 use Rattle.actor.specs.Actors.{acting, store-of}

@@ -1,4 +1,4 @@
-use mathlib.Core.Path.{_≡_, refl, sym, ap, _∙_}
+use mathlib.Core.Path.{refl, sym, ap, _∙_}
 use Prim.Native.Nat.{min}
 use lib.ListN.{length, set}
 use Rattle.actor.specs.Actors.{store-of}

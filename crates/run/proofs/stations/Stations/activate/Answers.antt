@@ -1,4 +1,4 @@
-use mathlib.Core.Path.{_≡_, sym, ap, _∙_}
+use mathlib.Core.Path.{sym, ap}
 use native.Mathlib.Omega.{arith}
 use Rattle.run.proofs.Groups.{active-in, active-out, active-end}
 use Rattle.run.specs.Stations.{activated}

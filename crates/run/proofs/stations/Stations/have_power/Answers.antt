@@ -1,4 +1,4 @@
-use mathlib.Core.Path.{_≡_, sym, ap, _∙_}
+use mathlib.Core.Path.{sym, ap, _∙_}
 use native.Mathlib.Omega.{arith}
 use Rattle.run.proofs.Groups.{power-in, power-out, power-no, power-end}
 use Rattle.run.specs.Stations.{all-power}
