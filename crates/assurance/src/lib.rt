@@ -1,4 +1,6 @@
 //! Lists of calls on a fresh run, and what holds after every such list.
+#![tactic(auto)]
+
 ghost use Rattle.std.specs.Prelude.{◌≡◌, true, IfOk};
 ghost use Rattle.assurance.specs.Marked.{AllAsMarked};
 ghost use Rattle.assurance.specs.Outcomes.{Sound, OneOutcome};

@@ -1,4 +1,6 @@
 //! A journal over bytes that the caller lends.
+#![tactic(auto)]
+
 mod byte_journal;
 mod changes;
 mod examples;

@@ -1,5 +1,7 @@
 //! Compares the engine with the model (crate `model`) on many lists of calls, after every call, and the journals with
 //! the model's on many deeds. The lists come from a fixed seed, so every run of the program makes the same calls.
+#![tactic(auto)]
+
 mod dice;
 mod drawing;
 mod examples;

@@ -1,4 +1,6 @@
 //! Two journals as one.
+#![tactic(auto)]
+
 ghost use Rattle.std.specs.Prelude.{◌≡◌, ◌+◌, ◌<◌, min, ◌++◌};
 ghost use Rattle.join.specs.Parts.{part_of, Lies};
 ghost use Rattle.join.specs.Together.{together};

@@ -1,4 +1,6 @@
 //! Records, their bytes, and the journals that keep them.
+#![tactic(auto)]
+
 pub mod calls;
 pub mod records;
 pub mod refusals;

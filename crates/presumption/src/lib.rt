@@ -1,4 +1,6 @@
 //! Presumptions: what stations take for granted of a revision that nobody remembers.
+#![tactic(auto)]
+
 ghost use Rattle.std.specs.Prelude.{◌≡◌};
 ghost use Rattle.presumption.specs.Answers.{Answers, Lawful};
 

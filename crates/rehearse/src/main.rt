@@ -1,4 +1,6 @@
 //! Rehearses runs of the commit engine under both presumptions and over three journals, and tells each call.
+#![tactic(auto)]
+
 mod journals;
 mod rehearsal;
 mod scenarios;

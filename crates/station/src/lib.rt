@@ -1,4 +1,6 @@
 //! One station's rules: sets of stations, messages, entries, the steps that they call for, and recovery.
+#![tactic(auto)]
+
 pub mod coordinator;
 pub mod messages;
 pub mod recovery;

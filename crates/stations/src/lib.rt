@@ -1,4 +1,6 @@
 //! The stations of a run: power and entries.
+#![tactic(auto)]
+
 ghost use Rattle.std.specs.Prelude.{◌≡◌, ◌≤◌, true, false, not, ◌&&◌, length, set, replicate, IfOk, vec_len, nat_lt, slice_index_or};
 ghost use Rattle.std.specs.List.{range_with_len};
 ghost use Rattle.journal.specs.Meaning.{section};

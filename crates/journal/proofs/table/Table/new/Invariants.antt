@@ -5,4 +5,4 @@ use Rattle.journal.specs.Meaning.{section_of}
 use Rattle.journal.specs.Tables.{station_section}
 
 abbrev pub invariant-loop-station : goal.invariant-loop-station
-invariant-loop-station l = (vec_len l.served ≡ l.-station) × (map station_section (vec_items l.served) ≡ replicate l.-station (section_of table_records [] []))
+invariant-loop-station l = (vec_len l.served ≡ l._station) × (map station_section (vec_items l.served) ≡ replicate l._station (section_of table_records [] []))
