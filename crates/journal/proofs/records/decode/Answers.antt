@@ -8,7 +8,7 @@ pub returns-in-Some : goal.returns-in-Some
 returns-in-Some c =
     let bs = c.args.bytes.now in
     let enough : record_bytes ≤ length bs = omega (arith, ltb-false) in
-    let low : get_or bs 2 0 < 256 = omega (arith, c.ok.bytes 2) in
+    let low : get_or bs 2 0 < 256 = omega (arith, c.type_inv.bytes 2) in
     let made = sym c.in-Some.ensures in
     record {
       cases = (decoded_front bs _ enough made, take_rest bs record_bytes);
