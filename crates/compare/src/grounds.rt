@@ -4,7 +4,7 @@ use crate::player::{Leaning, Plan, play_under};
 use crate::seen::{Seen, Trouble, agree};
 use crate::styles::{Style, styles};
 use crate::tally::Tally;
-use bytes::ByteJournal;
+use journal_bytes::ByteJournal;
 use join::Join;
 use journal::table::Table;
 use model::layout::found;

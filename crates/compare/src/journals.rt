@@ -4,7 +4,7 @@ use crate::grounds::agree_on_bytes;
 use crate::seen::{Seen, Trouble, agree, engine_record, read_seen, record_of};
 use crate::tally::Tally;
 use crate::views::agree_on_journal;
-use bytes::ByteJournal;
+use journal_bytes::ByteJournal;
 use join::Join;
 use journal::calls::Journal;
 use journal::records::decode as engine_decode;

@@ -1,7 +1,7 @@
 -- Eight stations need 5,152 bytes.
 use Rattle.std.proofs.Common.{◌≡◌, ℕ, false, ◌&&◌, eqb, leb, List, ◌∷◌, map, length, refl, ap}
-use Rattle.bytes.specs.Layout.{section_size, capacity_of, size_of, start_of, section_in, sections}
-use Rattle.bytes.specs.Opening.{all_accepted}
+use Rattle.journal_bytes.specs.Layout.{section_size, capacity_of, size_of, start_of, section_in, sections}
+use Rattle.journal_bytes.specs.Opening.{all_accepted}
 use Rattle.journal.specs.Meaning.{Section}
 use Rattle.journal.specs.Limits.{most_stations}
 use Rattle.run.specs.State.{least_capacity, ready, all_ready, fits}

@@ -1,7 +1,7 @@
 -- How many bytes eight stations need.
 use Rattle.std.specs.Prelude.{◌≡◌, ℕ, ◌-◌, false, List, length}
-use Rattle.bytes.specs.Layout.{section_size, capacity_of}
-use Rattle.bytes.specs.Opening.{opened}
+use Rattle.journal_bytes.specs.Layout.{section_size, capacity_of}
+use Rattle.journal_bytes.specs.Opening.{opened}
 use Rattle.run.specs.State.{least_capacity, fits}
 
 -- So many bytes give each of eight stations the least capacity; over one byte less, whatever they hold, no run is fit.

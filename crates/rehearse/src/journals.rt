@@ -4,7 +4,7 @@ ghost use Rattle.rehearse.specs.Sizes.{Enough};
 use crate::rehearsal::{Fate, rehearse};
 use crate::scenarios::OUTCOME_LOST;
 use crate::script::STATIONS;
-use bytes::ByteJournal;
+use journal_bytes::ByteJournal;
 use join::Join;
 use journal::table::Table;
 use presumption::commit::PresumedCommit;

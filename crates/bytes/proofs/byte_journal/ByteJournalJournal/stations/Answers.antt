@@ -1,6 +1,0 @@
-use Rattle.std.proofs.Common.{rules}
-use Rattle.bytes.proofs.Sections.{length_sections}
-use Rattle.bytes.proofs.byte_journal.ByteJournalJournal.stations.Goals as goal
-
-pub returns : goal.returns
-returns c = search (rules, length_sections)

@@ -1,7 +1,0 @@
-use Rattle.std.proofs.Common.{◌≡◌, ◌-◌}
-use Rattle.bytes.proofs.opening.all_decode.Given as goal
-use Rattle.bytes.specs.Opening.{all_decode}
-
--- What is left gives the answer.
-abbrev pub invariant-loop-done : goal.invariant-loop-done
-invariant-loop-done l = all_decode l.rest (l.records - l.-done) ≡ all_decode l.bytes l.records

@@ -1,0 +1,6 @@
+use Rattle.std.proofs.Common.{rules}
+use Rattle.journal_bytes.proofs.Sections.{length_sections}
+use Rattle.journal_bytes.proofs.byte_journal.ByteJournalJournal.stations.Goals as goal
+
+pub returns : goal.returns
+returns c = search (rules, length_sections)

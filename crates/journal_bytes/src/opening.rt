@@ -1,0 +1,68 @@
+//! Looking bytes over before a journal is made of them.
+ghost use Rattle.std.specs.Prelude.{◌≡◌, ◌+◌, ◌≤◌, length};
+ghost use Rattle.journal_bytes.specs.Layout.{counts_bytes, size_of};
+ghost use Rattle.journal_bytes.specs.Opening.{all_decode, counted, accepted, all_accepted, served_in};
+
+use crate::layout::{COUNTS_BYTES, capacity_of, count_at, section_size, section_start};
+use journal::{MAX_STATIONS, decode};
+
+// Whether the bytes begin with so many records.
+fn all_decode(bytes: &[u8], records: usize) -> bool
+    ensures { result ≡ all_decode bytes.now records }
+{
+    let mut rest = bytes;
+    for _done in 0..records {
+        match decode(rest) {
+            Ok((_, next)) => rest = next,
+            Err(_) => return false,
+        }
+    }
+    true
+}
+
+// How many records a section counts.
+fn counted(bytes: &[u8], start: usize) -> usize
+    requires { start + counts_bytes ≤ length bytes.now }
+    ensures { result ≡ counted bytes.now start }
+{
+    count_at(bytes, start) + count_at(bytes, start + 2)
+}
+
+// Whether a section counts no more than it has room for, and records alone.
+fn accepted(bytes: &[u8], start: usize, size: usize) -> bool
+    requires { start + size ≤ length bytes.now }
+    ensures { result ≡ accepted bytes.now start size }
+{
+    if size < COUNTS_BYTES {
+        return true;
+    }
+    let records = counted(bytes, start);
+    records <= capacity_of(size) && all_decode(&bytes[start + COUNTS_BYTES..], records)
+}
+
+// Whether all sections are accepted.
+fn all_accepted(bytes: &[u8], stations: u8) -> bool
+    ensures { result ≡ all_accepted bytes.now (size_of bytes.now stations) 0 stations }
+{
+    if stations == 0 {
+        return true;
+    }
+    let size = section_size(bytes.len(), stations);
+    for station in 0..stations {
+        if !accepted(bytes, section_start(station, size), size) {
+            return false;
+        }
+    }
+    true
+}
+
+// How many stations a journal serves that is made of these bytes: all or none.
+pub(crate) fn served(bytes: &[u8], stations: u8) -> u8
+    ensures { result ≡ served_in bytes.now stations }
+{
+    if stations <= MAX_STATIONS && all_accepted(bytes, stations) {
+        stations
+    } else {
+        0
+    }
+}
