@@ -11,9 +11,9 @@ returns g c =
     let π : Answers = g.P.Presumption.answers c.args.presumption in
     let lawful = g.met.P.Presumption.lawful c.args.presumption in
     record {
-      performed = c.perform-on-new.ensures.performed;
-      presumes = c.perform-on-new.ensures.presumes;
-      sound = IfOk-weaker c.perform-on-new.result _ _ (λ x p fit. subst (Sound π) (sym p.state) ((one_outcome π lawful (g.J.Journal.meaning c.args.journal) fit).0 c.args.calls.now)) c.perform-on-new.ensures.performed;
+      performed = c.perform_on_new.ensures.performed;
+      presumes = c.perform_on_new.ensures.presumes;
+      sound = IfOk-weaker c.perform_on_new.result _ _ (λ x p fit. subst (Sound π) (sym p.state) ((one_outcome π lawful (g.J.Journal.meaning c.args.journal) fit).0 c.args.calls.now)) c.perform_on_new.ensures.performed;
       outcome = one_outcome;
       marked = all_as_marked;
     }

@@ -11,5 +11,5 @@ pub returns : goal.returns
 returns c =
     record {
       rows = search rules;
-      few = omega (arith, ap length c.loop-station.invariant, length-replicate c.loop-station.-station (blank true), c.loop-station.rows.ok.0);
+      few = omega (arith, ap length c.loop-station.invariant, length-replicate c.loop-station._station (blank true), c.loop-station.rows.ok.0);
     }

@@ -2,12 +2,12 @@ use Rattle.std.proofs.Common.{◌≤◌, ◌∙◌}
 use Rattle.journal_bytes.proofs.Ways.{cut_done, kept_past, kept_none, kept_some, refused, is_served}
 use Rattle.journal_bytes.proofs.changes.cut_in.Goals as goal
 
-pub returns-in-default : goal.returns-in-default
-returns-in-default c =
+pub returns-in_default : goal.returns-in_default
+returns-in_default c =
     let bs = c.args.bytes.now in
     let n = c.args.stations in
     let s = c.args.station in
-    let past : n ≤ s = c.in-default.ensures.0 in
+    let past : n ≤ s = c.in_default.ensures.0 in
     let e = kept_past bs n s past _ in
     let d = cut_done bs n s bs c.args.kept e in
     record { bytes = e; answer = refused bs n s past; after = d.0; sound = d.1 }

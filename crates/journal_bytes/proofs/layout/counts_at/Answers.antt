@@ -8,8 +8,8 @@ returns-then-station-stations c =
     let bs = c.args.bytes.now in
     (search rules, omega (arith, length_sections bs c.args.stations), section_gone bs c.args.stations c.args.station (search rules))
 
-pub counts-in-requires : goal.counts-in-requires
-counts-in-requires c = search (rules, within_bytes)
+pub counts_in-requires : goal.counts_in-requires
+counts_in-requires c = search (rules, within_bytes)
 
 pub returns : goal.returns
 returns c = search (rules, found)

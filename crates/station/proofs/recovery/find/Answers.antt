@@ -6,7 +6,7 @@ use Rattle.station.proofs.recovery.find.Goals.{in-Some+else-is_of, in_default}
 
 pub returns-then-is_of : goal.returns-then-is_of
 returns-then-is_of g c =
-    found_here c.args.kind c.args.revision (section (g.J.Journal.meaning c.args.journal.now) c.args.station).stable c.loop-place.place _ c.loop-place.invariant (sym c.in-Some.ensures) (sym c.if-is-of.ensures)
+    found_here c.args.kind c.args.revision (section (g.J.Journal.meaning c.args.journal.now) c.args.station).stable c.loop-place.place _ c.loop-place.invariant (sym c.in-Some.ensures) (sym c.if-is_of.ensures)
 
 pub loop-place-preserved : goal.loop-place-preserved
 loop-place-preserved g c =

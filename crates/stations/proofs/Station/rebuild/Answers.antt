@@ -17,10 +17,10 @@ loop-revision-preserved g c =
     let π = g.P.Presumption.answers c.args.presumption.now in
     let ls = (section (meaning c.args.journal.now) c.args.station).stable in
     let r = c.loop-revision.revision in
-    let e = c.recover-coordinator-entry.ensures in
-    let d = c.recover-subordinate.ensures in
-    let z = c.set_subordinate.ensures ∙ ap (set_subordinate r c.recover-subordinate.result) c.set_coordinator.ensures in
-    subst (λ (x : Station). Partly π ls (r + 1) x) (sym z) (partly_more π ls r c.loop-revision.row c.recover-coordinator-entry.result c.recover-subordinate.result (omega arith) e d c.loop-revision.invariant)
+    let e = c.recover_coordinator-entry.ensures in
+    let d = c.recover_subordinate.ensures in
+    let z = c.set_subordinate.ensures ∙ ap (set_subordinate r c.recover_subordinate.result) c.set_coordinator.ensures in
+    subst (λ (x : Station). Partly π ls (r + 1) x) (sym z) (partly_more π ls r c.loop-revision.row c.recover_coordinator-entry.result c.recover_subordinate.result (omega arith) e d c.loop-revision.invariant)
 
 pub returns : goal.returns
 returns g c =

@@ -13,7 +13,7 @@ loop-station-preserved c =
     elim c.if-contains.branch [
       | then-contains w ↦
           let i = active_in c.args.set c.loop-station.station c.args.revision c.args.coordinator (vec_items c.loop-station.self.rows) (omega arith) (sym w.if-contains.ensures) in
-          let e = w.put-subordinate.ensures in
+          let e = w.put_subordinate.ensures in
           cc
       | else-contains w ↦
           let i = active_out c.args.set c.loop-station.station c.args.revision c.args.coordinator (vec_items c.loop-station.self.rows) (omega arith) (sym w.if-contains.ensures) in

@@ -20,6 +20,6 @@ returns g c =
     c.perform.ensures.state ∙ ap (λ (x : Acting). performed (acts π x.station r c.args.step) x) c.begin.ensures in
     record {
       store = store_done as' s f k w l e;
-      acts = c.saturating-sub.ensures ∙ acts_done as' s f k w l e;
-      cut = c.is-err-cut.ensures.value ∙ (c.perform.ensures.dark ∙ dark_burns as' s f k w l e);
+      acts = c.saturating_sub.ensures ∙ acts_done as' s f k w l e;
+      cut = c.is_err-cut.ensures.value ∙ (c.perform.ensures.dark ∙ dark_burns as' s f k w l e);
     }

@@ -23,7 +23,7 @@ drain-deliveries-requires-in-loop-station g c =
     let st = seen g.J.Journal.meaning c.loop-station.self in
     let light = few_then 3 st _ (seen g.J.Journal.meaning c.resolve.new.self) c.loop-station.invariant.ready (light_inquiring (g.P.Presumption.answers c.loop-station.self.presumption) st (subordinate_at st.stations c.loop-station.station c.args.revision) c.args.revision c.loop-station.station) c.resolve.ensures.state in
     let first = few_then 16 (seen g.J.Journal.meaning c.args.self.now) _ (seen g.J.Journal.meaning c.urge.new.self) c.requires.ready (light_urged (g.P.Presumption.answers c.args.self.now.presumption) (seen g.J.Journal.meaning c.args.self.now) (coordinator_entry c.args.revision (seen g.J.Journal.meaning c.args.self.now)) c.args.revision) c.urge.ensures.state in
-    record { fit = light.0; few = omega (arith, light.1, first.1, c.requires.few, c.loop-station.invariant.few, c.drain-deliveries.ensures.few, c.len-stations.type-inv) }
+    record { fit = light.0; few = omega (arith, light.1, first.1, c.requires.few, c.loop-station.invariant.few, c.drain-deliveries.ensures.few, c.len-stations.type_inv) }
 
 pub loop-station-preserved : goal.loop-station-preserved
 loop-station-preserved g c =
@@ -53,6 +53,6 @@ returns g c =
     record {
       progress = one ∙ (two ∙ (three ∙ four));
       ready = c.loop-station.invariant.ready;
-      few = omega (arith, light.1, c.loop-station.invariant.few, c.drain-deliveries.ensures.few, c.len-stations.type-inv);
+      few = omega (arith, light.1, c.loop-station.invariant.few, c.drain-deliveries.ensures.few, c.len-stations.type_inv);
       presumes = c.loop-station.invariant.presumes ∙ same;
     }
