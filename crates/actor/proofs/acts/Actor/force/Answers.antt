@@ -7,16 +7,16 @@ use Rattle.actor.proofs.Fuse.{burnt, acted}
 use Rattle.station.specs.Acts.{force}
 use Rattle.actor.proofs.acts.Actor.force.Goals as goal
 
-pub returns-in-err-burn : goal.returns-in-err-burn
-returns-in-err-burn g c =
-    let e = c.in-err-burn.ensures in
+pub returns-in_err-burn : goal.returns-in_err-burn
+returns-in_err-burn g c =
+    let e = c.in_err-burn.ensures in
     let b = burnt (force) (acting g.J.Journal.meaning c.args.self.now) (acting g.J.Journal.meaning c.burn.new.self) c.requires.lit e.0 e.1 in
     record { state = b.0; dark = let d = b.1.0 in search rules; here = b.1.1; names = search rules }
 
 pub returns : goal.returns
 unfolding done
 returns g c =
-    let e = c.in-ok-burn.ensures in
+    let e = c.in_ok-burn.ensures in
     let m = acting g.J.Journal.meaning c.burn.new.self in
     let b = acted (force) (acting g.J.Journal.meaning c.args.self.now) m _ c.requires.lit e.0 e.1 (ap (λ j. store j m.store.post m.store.log) (c.force.ensures.after ∙ ap (forced m.store.journal) (c.requires.here ∙ sym (ap (λ (x : Acting). x.station) e.1)))) in
     record { state = b; dark = sym (ap (λ (x : Acting). x.dark) e.1 ∙ c.requires.lit); here = ap (λ (x : Acting). x.station) e.1; names = search rules }

@@ -7,16 +7,16 @@ use Rattle.actor.proofs.Fuse.{burnt, acted}
 use Rattle.station.specs.Acts.{post, letter}
 use Rattle.actor.proofs.acts.Actor.put.Goals as goal
 
-pub returns-in-err-burn : goal.returns-in-err-burn
-returns-in-err-burn g c =
-    let e = c.in-err-burn.ensures in
+pub returns-in_err-burn : goal.returns-in_err-burn
+returns-in_err-burn g c =
+    let e = c.in_err-burn.ensures in
     let b = burnt (post (letter c.args.kind c.args.revision c.args.self.now.station c.args.receiver)) (acting g.J.Journal.meaning c.args.self.now) (acting g.J.Journal.meaning c.burn.new.self) c.requires e.0 e.1 in
     record { state = b.0; dark = let d = b.1.0 in search rules; here = b.1.1 }
 
 pub returns : goal.returns
 unfolding done
 returns g c =
-    let e = c.in-ok-burn.ensures in
+    let e = c.in_ok-burn.ensures in
     let m = acting g.J.Journal.meaning c.burn.new.self in
     let b = acted (post (letter c.args.kind c.args.revision c.args.self.now.station c.args.receiver)) (acting g.J.Journal.meaning c.args.self.now) m _ c.requires e.0 e.1 (ap (λ p. store m.store.journal p m.store.log) (c.add.ensures ∙ ap (λ s. posted (letter c.args.kind c.args.revision s c.args.receiver) m.store.post) (ap (λ (x : Acting). x.station) e.1))) in
     record { state = b; dark = sym (ap (λ (x : Acting). x.dark) e.1 ∙ c.requires); here = ap (λ (x : Acting). x.station) e.1 }
