@@ -9,3 +9,4 @@ mod post;
 
 pub use acts::{Actor, Performed};
 pub use log::Row;
+pub use station::MAX_REVISIONS;

@@ -60,8 +60,8 @@ fn put_entry<E: Copy>(entries: &mut [E], revision: u16, entry: E)
 }
 
 impl Station {
-    // A station without entries.
-    fn new(power: bool) -> Station
+    /// A station without entries.
+    pub fn new(power: bool) -> Station
         ensures { result ≡ blank power }
     {
         Station {
@@ -95,8 +95,8 @@ impl Station {
         put_entry(&mut self.subordinates, revision, entry);
     }
 
-    // A station with power, as its stable records rebuild it.
-    fn rebuild<J: Journal, P: Presumption>(journal: &J, presumption: &P, station: u8) -> Station
+    /// A station with power, as its stable records rebuild it.
+    pub fn rebuild<J: Journal, P: Presumption>(journal: &J, presumption: &P, station: u8) -> Station
         ensures { result ≡ rebuilt (P.Presumption.answers presumption.now) (section (J.Journal.meaning journal.now) station).stable }
     {
         let mut row = Station::new(true);
@@ -231,8 +231,8 @@ impl Stations {
         }
     }
 
-    // Puts another station in a station's place.
-    fn put(&mut self, station: u8, row: Station)
+    /// Puts another station in a station's place.
+    pub fn put(&mut self, station: u8, row: Station)
         ensures { self.new.rows.items ≡ set self.old.rows.items station row }
     {
         if (station as usize) < self.rows.len() {
@@ -245,14 +245,6 @@ impl Stations {
         ensures { self.new.rows.items ≡ set self.old.rows.items station (blank false) }
     {
         self.put(station, Station::new(false));
-    }
-
-    /// The power returns at a station, and its stable records rebuild its entries.
-    pub fn restart<J: Journal, P: Presumption>(&mut self, station: u8, journal: &J, presumption: &P)
-        ensures { self.new.rows.items ≡ set self.old.rows.items station (rebuilt (P.Presumption.answers presumption.now) (section (J.Journal.meaning journal.now) station).stable) }
-    {
-        let row = Station::rebuild(journal, presumption, station);
-        self.put(station, row);
     }
 
     /// Have all stations power?

@@ -3,6 +3,8 @@ ghost use Rattle.std.specs.Prelude.{◌≡◌, IfOk};
 ghost use Rattle.run.specs.Answers.{answer_of, plain_answer};
 ghost use Rattle.run.specs.Calls.{Reply, reply, asked, passed, opened_questions, coordinator_questions, subordinate_questions, message_questions, coordinator_of, message_at, heard, open_call, close_call, give_up_call, chase_call, reject_call, inquire_call, deliver_call, lose_call, cut_call, restart_call};
 ghost use Rattle.run.specs.Runs.{seen};
+ghost use Rattle.journal.specs.Meaning.{section};
+ghost use Rattle.stations.specs.Stations.{rebuilt};
 
 use crate::refusals::Refusal;
 use crate::run::Run;
@@ -12,7 +14,7 @@ use station::coordinator::CoordinatorEntry;
 use station::messages::Message;
 use station::sets::StationSet;
 use station::steps::Step;
-use stations::Turn;
+use stations::{Station, Turn};
 
 impl<J: Journal, P: Presumption> Run<J, P> {
     // The coordinator of a revision that was opened.
@@ -199,6 +201,13 @@ impl<J: Journal, P: Presumption> Run<J, P> {
         Ok(())
     }
 
+    // The station as its stable records rebuild it.
+    fn rebuild(&self, station: u8) -> Station
+        ensures { result ≡ rebuilt (P.Presumption.answers self.now.presumption) (section (J.Journal.meaning self.now.actor.journal) station).stable }
+    {
+        Station::rebuild(self.actor.journal(), &self.presumption, station)
+    }
+
     /// The power returns at a station, and its stable records rebuild its entries.
     pub fn restart(&mut self, station: u8) -> Result<(), Refusal>
         ensures reply { reply (plain_answer result) (seen J.Journal.meaning self.new) ≡ restart_call (P.Presumption.answers self.old.presumption) station (seen J.Journal.meaning self.old) }
@@ -213,8 +222,8 @@ impl<J: Journal, P: Presumption> Run<J, P> {
         if self.stations.power(station) {
             return Err(Refusal::NotDark);
         }
-        self.stations
-            .restart(station, self.actor.journal(), &self.presumption);
+        let row = self.rebuild(station);
+        self.stations.put(station, row);
         Ok(())
     }
 

@@ -1,13 +1,16 @@
 //! What a run shows: questions that change nothing.
 ghost use Rattle.std.specs.Prelude.{◌≡◌, length};
 ghost use Rattle.run.specs.Runs.{seen};
+ghost use Rattle.stations.specs.Stations.{power_at, coordinator_at, subordinate_at};
 ghost use Rattle.std.specs.List.{slice_get};
 
 use crate::run::Run;
 use actor::Row;
 use journal::calls::Journal;
 use presumption::Presumption;
+use station::coordinator::CoordinatorEntry;
 use station::messages::Message;
+use station::subordinate::SubordinateEntry;
 use stations::Stations;
 
 impl<J: Journal, P: Presumption> Run<J, P> {
@@ -16,6 +19,27 @@ impl<J: Journal, P: Presumption> Run<J, P> {
         ensures { result.now.rows.items ≡ (seen J.Journal.meaning self.now).stations }
     {
         &self.stations
+    }
+
+    /// Has the station power?
+    pub fn power(&self, station: u8) -> bool
+        ensures { result ≡ power_at (seen J.Journal.meaning self.now).stations station }
+    {
+        self.stations.power(station)
+    }
+
+    /// The station's coordinator entry for a revision.
+    pub fn coordinator_entry(&self, station: u8, revision: u16) -> CoordinatorEntry
+        ensures { result ≡ coordinator_at (seen J.Journal.meaning self.now).stations station revision }
+    {
+        self.stations.coordinator(station, revision)
+    }
+
+    /// The station's subordinate entry for a revision.
+    pub fn subordinate_entry(&self, station: u8, revision: u16) -> SubordinateEntry
+        ensures { result ≡ subordinate_at (seen J.Journal.meaning self.now).stations station revision }
+    {
+        self.stations.subordinate(station, revision)
     }
 
     /// The revision's row of the as-run log.
