@@ -1,12 +1,12 @@
 //! One scenario over each of the three journals, which give it one outcome.
 ghost use Rattle.rehearse.specs.Sizes.{Enough};
 
-use crate::rehearsal::{Fate, rehearse};
+use crate::rehearsal::{Fate, play};
 use crate::scenarios::OUTCOME_LOST;
 use crate::script::STATIONS;
-use journal_bytes::ByteJournal;
 use join::Join;
 use journal::table::Table;
+use journal_bytes::ByteJournal;
 use presumption::commit::PresumedCommit;
 use std::io;
 
@@ -32,21 +32,20 @@ fn bytes_needed() -> usize
 // Over a table.
 fn over_table(rt: &HostRuntime) -> io::Result<Fate> {
     let table = Table::new(rt.alloc(), STATIONS)?;
-    let rehearsed = rehearse(
+    play(
         rt,
         &OUTCOME_LOST,
         "presumed commit over a table",
         table,
         PresumedCommit,
-    )?;
-    Ok(rehearsed.fate)
+    )
 }
 
 // Over bytes, some of which are then shown.
 fn over_bytes(rt: &HostRuntime) -> io::Result<Fate> {
     let mut lent = [0u8; THREE_SECTIONS];
     let journal = ByteJournal::new(&mut lent, STATIONS);
-    let rehearsed = rehearse(
+    let fate = play(
         rt,
         &OUTCOME_LOST,
         "presumed commit over bytes",
@@ -58,7 +57,7 @@ fn over_bytes(rt: &HostRuntime) -> io::Result<Fate> {
         print!(rt; " {byte:02x}")?;
     }
     println!(rt; "")?;
-    Ok(rehearsed.fate)
+    Ok(fate)
 }
 
 // Over a table for station 0, joined to bytes for the others.
@@ -67,8 +66,7 @@ fn over_join(rt: &HostRuntime) -> io::Result<Fate> {
     let table = Table::new(rt.alloc(), 1)?;
     let journal = Join::new(table, ByteJournal::new(&mut lent, STATIONS - 1));
     let name = "presumed commit over a table joined to bytes";
-    let rehearsed = rehearse(rt, &OUTCOME_LOST, name, journal, PresumedCommit)?;
-    Ok(rehearsed.fate)
+    play(rt, &OUTCOME_LOST, name, journal, PresumedCommit)
 }
 
 /// Plays one scenario over each journal, and says whether they agree.

@@ -1,10 +1,9 @@
 //! The words in which a rehearsal is told.
-use crate::rehearsal::Fate;
-use assurance::calls::{Call, Value};
+use crate::script::{Call, Power};
 use journal::MAX_STATIONS;
 use journal::records::{Kind, Record};
 use presumption::outcome::Outcome;
-use run::run::settling::{Awaited, LONG_FUSE};
+use run::refusals::Refusal;
 use station::coordinator::CoordinatorEntry;
 use station::messages::{Message, MessageKind};
 use station::sets::StationSet;
@@ -19,11 +18,39 @@ pub struct Shown<T>(pub T);
 #[derive(Clone, Copy)]
 pub struct Places(pub StationSet);
 
-/// How long the power lasts in a step, and how many unforced records are kept if it fails.
+/// What a call answers.
 #[derive(Clone, Copy)]
-pub struct Power {
-    pub fuse: u8,
-    pub kept: u8,
+pub enum Answer {
+    Revision(u16),
+    Acts(u8),
+    Done,
+    Refused(Refusal),
+}
+
+impl Answer {
+    /// The answer of `open`.
+    pub fn of_open(answer: Result<u16, Refusal>) -> Answer {
+        match answer {
+            Ok(revision) => Answer::Revision(revision),
+            Err(refusal) => Answer::Refused(refusal),
+        }
+    }
+
+    /// The answer of a call that takes a step.
+    pub fn of_step(answer: Result<u8, Refusal>) -> Answer {
+        match answer {
+            Ok(acts) => Answer::Acts(acts),
+            Err(refusal) => Answer::Refused(refusal),
+        }
+    }
+
+    /// The answer of a call that only refuses or not.
+    pub fn of_power(answer: Result<(), Refusal>) -> Answer {
+        match answer {
+            Ok(()) => Answer::Done,
+            Err(refusal) => Answer::Refused(refusal),
+        }
+    }
 }
 
 // The word for an outcome.
@@ -51,73 +78,54 @@ fn message_word(kind: MessageKind) -> &'static str {
 fn call_word(call: Call) -> &'static str {
     match call {
         Call::Open { .. } => "open",
-        Call::Close { .. } => "close",
-        Call::GiveUp { .. } => "give_up",
-        Call::Chase { .. } => "chase",
+        Call::Close => "close",
+        Call::GiveUp => "give_up",
         Call::Reject { .. } => "reject",
         Call::Inquire { .. } => "inquire",
-        Call::Deliver { .. } => "deliver",
-        Call::Lose { .. } => "lose",
+        Call::Deliver(_) => "deliver",
         Call::Cut { .. } => "cut",
         Call::Restart { .. } => "restart",
-        Call::Settle => "settle",
-        Call::Awaited { .. } => "awaited",
     }
 }
 
 impl fmt::Display for Power {
     fn fmt<W: fmt::Write>(&self, f: &mut fmt::Formatter<W>) -> fmt::Result {
-        if self.fuse == LONG_FUSE {
-            return Ok(());
+        match *self {
+            Power::Lasts => Ok(()),
+            Power::Fails { after, kept } => write!(f, ", fuse {after}, kept {kept}"),
         }
-        let fuse = self.fuse;
-        let kept = self.kept;
-        write!(f, ", fuse {fuse}, kept {kept}")
     }
 }
 
-impl fmt::Display for Shown<Call> {
+impl fmt::Display for Call {
     fn fmt<W: fmt::Write>(&self, f: &mut fmt::Formatter<W>) -> fmt::Result {
-        let word = call_word(self.0);
-        match self.0 {
-            Call::Open { set, .. } => {
-                let set = Shown(set);
+        let word = call_word(*self);
+        match *self {
+            Call::Open { set } => {
+                let set = Shown(StationSet::from_bits(set));
                 write!(f, "{word} {set}")
             }
-            Call::Reject { station, .. } | Call::Inquire { station, .. } => {
+            Call::Close | Call::GiveUp | Call::Deliver(_) => f.write_str(word),
+            Call::Reject { station } | Call::Inquire { station } | Call::Restart { station } => {
                 write!(f, "{word} at {station}")
             }
-            Call::Restart { station } => write!(f, "{word} at {station}"),
             Call::Cut { station, kept } => write!(f, "{word} at {station}, kept {kept}"),
-            _ => f.write_str(word),
         }
     }
 }
 
-impl fmt::Display for Shown<Value> {
+impl fmt::Display for Answer {
     fn fmt<W: fmt::Write>(&self, f: &mut fmt::Formatter<W>) -> fmt::Result {
-        match self.0 {
-            Value::Revision(revision) => write!(f, "revision {revision}"),
-            Value::Acts(1) => f.write_str("1 act"),
-            Value::Acts(acts) => write!(f, "{acts} acts"),
-            Value::Nothing => f.write_str("done"),
-            Value::Deliveries(count) => write!(f, "{count} deliveries"),
-            Value::Awaited(
-                Awaited {
-                    station: Some(station),
-                    count,
-                },
-            ) => { write!(f, "station {station}, {count} in all") }
-            Value::Awaited(_) => f.write_str("nobody"),
+        match *self {
+            Answer::Revision(revision) => write!(f, "revision {revision}"),
+            Answer::Acts(1) => f.write_str("1 act"),
+            Answer::Acts(acts) => write!(f, "{acts} acts"),
+            Answer::Done => f.write_str("done"),
+            Answer::Refused(refusal) => {
+                let number = refusal.number();
+                write!(f, "refused with {number}")
+            }
         }
-    }
-}
-
-impl fmt::Display for Fate {
-    fn fmt<W: fmt::Write>(&self, f: &mut fmt::Formatter<W>) -> fmt::Result {
-        let installed = Places(StationSet::from_bits(self.installed));
-        let dropped = Places(StationSet::from_bits(self.dropped));
-        write!(f, "installed {installed}, dropped {dropped}")
     }
 }
 

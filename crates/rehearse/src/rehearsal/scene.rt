@@ -2,8 +2,7 @@
 ghost use Rattle.std.specs.Prelude.{◌≡◌, ◌-◌};
 
 use crate::rehearsal::Rehearsal;
-use crate::script::{COORDINATOR, REVISION};
-use assurance::calls::Call;
+use crate::script::{COORDINATOR, Call, REVISION};
 use journal::calls::Journal;
 use presumption::Presumption;
 
@@ -74,7 +73,7 @@ impl<J: Journal, P: Presumption> Rehearsal<'_, J, P> {
         };
         Scene {
             station,
-            power: self.run.stations().power(station),
+            power: self.run.power(station),
             installed,
             dropped,
             stable: self.run.journal().stable_len(station),
@@ -83,16 +82,16 @@ impl<J: Journal, P: Presumption> Rehearsal<'_, J, P> {
         }
     }
 
-    /// The scene before a call, at the station that will act; a call of all stations is seen at the coordinator.
+    /// The scene before a call, at the station that will act.
     pub fn scene_before(&self, call: Call) -> Scene {
         match call {
-            Call::Reject { station, .. } | Call::Inquire { station, .. } => self.scene(station),
+            Call::Open { .. } | Call::Close | Call::GiveUp => self.scene(COORDINATOR),
+            Call::Reject { station } | Call::Inquire { station } => self.scene(station),
             Call::Cut { station, .. } | Call::Restart { station } => self.scene(station),
-            Call::Deliver { place, .. } => match self.run.message(place) {
+            Call::Deliver(_) => match self.run.message(0) {
                 Some(message) => self.scene(message.receiver).delivered(),
                 None => self.scene(COORDINATOR),
             },
-            _ => self.scene(COORDINATOR),
         }
     }
 }

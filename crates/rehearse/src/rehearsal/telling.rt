@@ -1,56 +1,30 @@
 //! The lines of a rehearsal.
 use crate::rehearsal::Rehearsal;
 use crate::rehearsal::scene::Scene;
-use crate::script::REVISION;
-use crate::words::{Power, Shown};
-use assurance::calls::{Call, Value};
+use crate::script::{Call, REVISION};
+use crate::words::{Answer, Places, Shown};
 use journal::calls::Journal;
 use presumption::Presumption;
-use run::refusals::Refusal;
 use std::io;
 
 impl<J: Journal, P: Presumption> Rehearsal<'_, J, P> {
     /// The call, with the message that it delivers.
     pub fn tell_call(&self, call: Call) -> io::Result<()> {
-        if let Call::Deliver {
-            place,
-            fuse,
-            kept,
-            ..
-        } = call
-        {
-            if let Some(message) = self.run.message(place) {
+        match (call, self.run.message(0)) {
+            (Call::Deliver(power), Some(message)) => {
                 let message = Shown(message);
-                let power = Power { fuse, kept };
-                return print!(self.rt; "deliver {message}{power}: ");
+                print!(self.rt; "deliver {message}{power}: ")
             }
-        }
-        let call = Shown(call);
-        print!(self.rt; "{call}: ")
-    }
-
-    /// The answer, and what changed since at the station.
-    pub fn tell_answer(&self, answer: Result<Value, Refusal>, before: Scene) -> io::Result<()> {
-        match answer {
-            Ok(Value::Deliveries(count)) => println!(self.rt; "{count} deliveries"),
-            Ok(value) => {
-                let value = Shown(value);
-                print!(self.rt; "{value}")?;
-                self.tell_change(before)
-            }
-            Err(refusal) => {
-                let number = refusal.number();
-                println!(self.rt; "refused with {number}")
-            }
+            _ => print!(self.rt; "{call}: "),
         }
     }
 
-    // What changed since at the station.
-    fn tell_change(&self, before: Scene) -> io::Result<()> {
+    /// The answer, and what changed since.
+    pub fn tell_answer(&self, answer: Answer, before: Scene) -> io::Result<()> {
         let after = self.scene(before.station);
         let mark = before.mark(after);
         let unforced = before.unforced(after);
-        print!(self.rt; "{mark}{unforced}")?;
+        print!(self.rt; "{answer}{mark}{unforced}")?;
         self.tell_stable(before, after)?;
         self.tell_posted(before, after)?;
         self.rt.println(before.outage(after))
@@ -82,12 +56,22 @@ impl<J: Journal, P: Presumption> Rehearsal<'_, J, P> {
 
     /// A station: its entries, and how many records it has.
     pub fn show_station(&self, station: u8) -> io::Result<()> {
-        let coordinator = Shown(self.run.stations().coordinator(station, REVISION));
-        let subordinate = Shown(self.run.stations().subordinate(station, REVISION));
+        let coordinator = Shown(self.run.coordinator_entry(station, REVISION));
+        let subordinate = Shown(self.run.subordinate_entry(station, REVISION));
         let stable = self.run.journal().stable_len(station);
         let unforced = self.run.journal().unforced_len(station);
         println!(self.rt;
             "station {station}: coordinator entry {coordinator}; subordinate entry {subordinate}; records: {stable} stable, {unforced} unforced"
         )
+    }
+
+    /// Where the revision is installed, and where dropped.
+    pub fn show_revision(&self) -> io::Result<()> {
+        let Some(row) = self.run.as_run(REVISION) else {
+            return Ok(());
+        };
+        let installed = Places(row.installed);
+        let dropped = Places(row.dropped);
+        println!(self.rt; "revision {REVISION}: installed {installed}, dropped {dropped}")
     }
 }
