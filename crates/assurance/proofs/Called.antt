@@ -33,7 +33,7 @@ use Rattle.assurance.proofs.View.{lt_true, true_lt, false_lt, kind_as, outcome_a
 use Rattle.std.proofs.ByRecursion.{All-get_or}
 use Rattle.std.proofs.lemmas.List.FromFn.{length-map-range_with_len, get_or-map-range_with_len}
 use Rattle.run.specs.Answers.{answered}
-use Rattle.run.specs.Calls.{reply, refuse, moved, if_allowed, coordinator_of, coordinator_call, coordinator_entry, close_call, give_up_call, chase_call, subordinate_call, reject_call, inquire_call, heard, handed, message_at, removed, deliver_call, lose_call, cut_call, restart_call, awaited_call, turning}
+use Rattle.run.specs.Calls.{reply, refuse, moved, if_allowed, coordinator_of, coordinator_call, coordinator_entry, close_call, give_up_call, chase_call, subordinate_call, reject_call, inquire_call, heard, handed, message_at, removed, deliver_call, lose_call, cut_call, restart_call, unheard_call, turning}
 use Rattle.run.specs.State.{restarted}
 use Rattle.station.specs.Moves.{Move}
 use Rattle.station.specs.Recovery.{resumed_coordinator, resumed_subordinate, doubt, told_by, decision, announced}
@@ -289,7 +289,7 @@ module _ (π : Answers) (𝓗 : Lawful π) (n : ℕ) (two : 2 ≤ n) (eight : n 
       go true true e q = (left_view i false, (left_good i false).shape)
 
   -- a question changes nothing
-  pub awaited_view : (r : ℕ) → To (awaited_call r st).state (ideal.call Q ideal.look V)
+  pub awaited_view : (r : ℕ) → To (unheard_call r st).state (ideal.call Q ideal.look V)
   awaited_view r = go st.fit (ltb r (length st.store.log))
     where
       go : (a b : Bool) → To (cond a (cond b (reply (answered (ones (unheard (coordinator_entry r st)).bits)) st) (refuse 3 st)) (refuse 1 st)).state V

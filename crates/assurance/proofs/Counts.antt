@@ -1,6 +1,6 @@
 -- At most five records for each revision at each station.
 use Rattle.std.proofs.Common.{◌≡◌, ℕ, zero, suc, ◌+◌, ◌*◌, ◌<◌, ◌≤◌, Bool, true, false, not, ◌&&◌, ◌||◌, eqb, ltb, List, [], ◌∷◌, ◌++◌, length, take, sym, refl, ap, ◌∙◌, subst, inl, inr, arith}
-use Rattle.std.specs.List.{AllByRecursion as All}
+use Rattle.std.specs.List.{AllByRecursion}
 use Rattle.std.proofs.lemmas.Bool.Decides.{nat_tests}
 use Rattle.std.proofs.lemmas.Bool.{or_parts, cond_both, cond-true, cond-false, cases_Bool, cases_eq, eq-eqb}
 use Rattle.assurance.proofs.Ideal.{updated, members, Kind, kI, kC, kA, kE, kp, kc, ka, code, Record, is, has, Outcome, commit, abort, CoordinatorEntry, none, Open, Collecting, Announcing, SubordinateEntry, idle, Active, Prepared, Station, MessageKind, PREPARE, YES, NO, COMMIT, ABORT, INQUIRY, Run, Presumption, Logging, not_at_all, unforced, forced, at_station, written_station, forced_station, cut_station, Act, write, force, send, installed, dropped, acts_done, Turn, stay, to_coordinator, to_subordinate, turn, step, line, letter, send_each, outcome_mail, outcome_kind, await, logged, end_acts, abort_acts, force_if, ack_if, doubtful, resumed, restarted_station, opened_station}
@@ -332,7 +332,7 @@ below_zero : (n : ℕ) → below n (λ r. 0) ≡ 0
 below_zero zero = refl
 below_zero (suc n) = omega (arith, below_zero n)
 
-counted : (n : ℕ) (l : List Record) → All (λ x. x.revision < n) l → length l ≡ below n (λ r. of_rev r l)
+counted : (n : ℕ) (l : List Record) → AllByRecursion (λ x. x.revision < n) l → length l ≡ below n (λ r. of_rev r l)
 counted n [] h = sym (below_zero n)
 counted n (x ∷ l) h = omega (arith, counted n l h.1, below_add n (λ r. one (eqb x.revision r)) (λ r. of_rev r l), below_one n x.revision h.0)
 
@@ -357,7 +357,7 @@ all_kinds r (x ∷ l) = go x.kind refl (all_kinds r l)
     go ka e h = omega (arith, h, by_kind ka r x e)
 
 -- at most five for each revision
-pub room : (n : ℕ) (y : Station) → All (λ x. x.revision < n) y.stable → All (λ x. x.revision < n) y.loose → FewS y → length y.stable + length y.loose ≤ n * 5
+pub room : (n : ℕ) (y : Station) → AllByRecursion (λ x. x.revision < n) y.stable → AllByRecursion (λ x. x.revision < n) y.loose → FewS y → length y.stable + length y.loose ≤ n * 5
 room n y a b h =
     omega (
       arith,

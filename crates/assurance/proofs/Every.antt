@@ -1,6 +1,6 @@
 -- All that holds after every call, and what settling leaves.
 use Rattle.std.proofs.Common.{◌≡◌, ℕ, ◌+◌, ◌^◌, ◌<◌, ◌≤◌, Bool, true, false, cond, not, ◌&&◌, eqb, ltb, List, [], ◌∷◌, length, get_or, take, sym, refl, ap, ◌∙◌, subst, inl, inr, arith}
-use Rattle.std.specs.List.{AllByRecursion as All, range_with_len}
+use Rattle.std.specs.List.{AllByRecursion, range_with_len}
 use Rattle.std.proofs.ByRecursion.{All-weaker, All-get_or}
 use Rattle.std.proofs.lemmas.Bool.{or_from, cond_both, cond-true, cond-false, cases_Bool, true≢false, ne_eqb, and_parts, not-true, cases_lt, ltb-true}
 use Rattle.assurance.proofs.Ideal.{updated, in_set, members, Kind, kp, kc, ka, Record, is, has, CoordinatorEntry, none, Open, SubordinateEntry, idle, Active, Prepared, Station, ACK, Message, Plan, Run, Presumption, at_station, cut_station, with_message, marked_installed, marked_dropped, with_post, Act, write, force, send, installed, dropped, act_done, acts_done, Turn, stay, to_coordinator, to_subordinate, turn, step, letter, upon_close, upon_give_up, upon_reject, upon_chase, upon_inquire, handed, restarted_station, upon_open, drop_at, Call, open_revision, close, give_up, chase, reject, inquire, deliver, lose, cut, restart, settle, look, all_powered, hand_first, emptied, nudge, urged, asked, inquire_all, revise, revise_all, settled, fits, call, calls}
@@ -80,7 +80,7 @@ module _ (π : Presumption) (𝓛 : Laws π) where
 
   -- what a settle keeps
   module _ (Q : Run → Type 0) (each : (m : Message) (ms : List Message) (st : Run) → m ∷ ms ≡ st.post → Q st → Q (hand_first π m (with_post ms st))) (urge : (r : ℕ) (st : Run) → Q st → Q (urged π r st)) (ask : (r s : ℕ) (st : Run) → s < π.size → Q st → Q (asked π r s st)) where
-    keeps_asks : (r : ℕ) (ss : List ℕ) (st : Run) (k : ℕ) → All (λ s. s < π.size) ss → Q st → Q (inquire_all π r ss st k).left
+    keeps_asks : (r : ℕ) (ss : List ℕ) (st : Run) (k : ℕ) → AllByRecursion (λ s. s < π.size) ss → Q st → Q (inquire_all π r ss st k).left
     unfolding inquire_all
     keeps_asks r [] st k a h = h
     keeps_asks r (s ∷ ss) st k a h = keeps_asks r ss (emptied π (asked π r s st) k).left (emptied π (asked π r s st) k).made a.1 (keeps_emptied π 𝓛 Q each (asked π r s st) k (ask r s st a.0 h))
@@ -117,13 +117,13 @@ module _ (π : Presumption) (𝓛 : Laws π) where
         dark = dark_did st r s t f k P v on d h.dark;
       }
 
-  pub full_post : (st : Run) (p : List Message) → Inv π 𝓛 (with_post p st) → All (NearM π.size) p → Full st → Full (with_post p st)
+  pub full_post : (st : Run) (p : List Message) → Inv π 𝓛 (with_post p st) → AllByRecursion (NearM π.size) p → Full st → Full (with_post p st)
   full_post st p i n h = record { inv = i; near = record { posts = n; plans = h.near.plans; sets = h.near.sets; far = h.near.far }; marked = h.marked; few = h.few; cap = h.cap; dark = h.dark }
 
   pub full_first : (m : Message) (ms : List Message) (st : Run) → m ∷ ms ≡ st.post → Full st → Full (hand_first π m (with_post ms st))
   full_first m ms st e h =
-      let n : All (NearM π.size) (m ∷ ms) = subst (All (NearM π.size)) (sym e) h.near.posts in
-      let a : All (Legal π (world st)) (m ∷ ms) = subst (All (Legal π (world st))) (sym e) h.inv.safe.msgs in
+      let n : AllByRecursion (NearM π.size) (m ∷ ms) = subst (AllByRecursion (NearM π.size)) (sym e) h.near.posts in
+      let a : AllByRecursion (Legal π (world st)) (m ∷ ms) = subst (AllByRecursion (Legal π (world st))) (sym e) h.inv.safe.msgs in
       let i = inv_first π 𝓛 m ms st e h.inv in
       let h' = full_post st ms (inv_post π 𝓛 st ms h.inv a.1) n.1 h in
       go (st.station m.to).power refl i h' n.0
@@ -185,8 +185,8 @@ module _ (π : Presumption) (𝓛 : Laws π) where
       let l : Legal π (world st) m = All-get_or _ st.post i (letter ACK 0 0 0) (ltb-true i (length st.post) lt) h.inv.safe.msgs in
       let n : NearM π.size m = All-get_or _ st.post i (letter ACK 0 0 0) (ltb-true i (length st.post) lt) h.near.posts in
       let p : List Message = cond copy st.post (drop_at i st.post) in
-      let i' : Inv π 𝓛 (with_post p st) = inv_post π 𝓛 st p h.inv (cond_both copy st.post (drop_at i st.post) (All (Legal π (world st))) (λ _. h.inv.safe.msgs) (λ _. all_drop_at π 𝓛 _ i st.post h.inv.safe.msgs)) in
-      let h' : Full (with_post p st) = full_post st p i' (cond_both copy st.post (drop_at i st.post) (All (NearM π.size)) (λ _. h.near.posts) (λ _. all_drop_at π 𝓛 _ i st.post h.near.posts)) h in
+      let i' : Inv π 𝓛 (with_post p st) = inv_post π 𝓛 st p h.inv (cond_both copy st.post (drop_at i st.post) (AllByRecursion (Legal π (world st))) (λ _. h.inv.safe.msgs) (λ _. all_drop_at π 𝓛 _ i st.post h.inv.safe.msgs)) in
+      let h' : Full (with_post p st) = full_post st p i' (cond_both copy st.post (drop_at i st.post) (AllByRecursion (NearM π.size)) (λ _. h.near.posts) (λ _. all_drop_at π 𝓛 _ i st.post h.near.posts)) h in
       cond_both (st.station m.to).power (handed π m.mail m.revision m.to m.from f k (with_post p st)) (with_post p st) Full
       (λ on. full_did (with_post p st) m.revision m.to m.from f k (λ u. For π u m.mail) _ (inv_handed π 𝓛 m.mail m.revision m.to m.from f k (with_post p st) on i' l) on n.1 n.0 (did_handed π m.mail m.revision m.to m.from f k (with_post p st)) h')
       (λ _. h'))
@@ -261,7 +261,7 @@ module _ (π : Presumption) (𝓛 : Laws π) where
       }
 
   -- a settle from any such state
-  pub all_on : (l : List ℕ) (st : Run) → All (λ s. (st.station s).power ≡ true) l → all_powered l st ≡ true
+  pub all_on : (l : List ℕ) (st : Run) → AllByRecursion (λ s. (st.station s).power ≡ true) l → all_powered l st ≡ true
   all_on [] st h = refl
   all_on (s ∷ l) st h = rw h.0 (all_on l st h.1)
 

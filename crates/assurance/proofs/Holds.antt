@@ -4,7 +4,7 @@ use lib.ListN.{length-map}
 use Rattle.std.proofs.lemmas.Bool.Decides.{nat_tests}
 use Rattle.std.proofs.lemmas.Bool.{cond-true, cond-false, cases_lt, eqb-true, and_parts}
 use Rattle.std.proofs.lemmas.List.{get_or_past}
-use Rattle.std.specs.List.{AllByRecursion as All, range_with_len}
+use Rattle.std.specs.List.{AllByRecursion, range_with_len}
 use Rattle.journal.specs.Meaning.{Section, section, held, no_section}
 use Rattle.journal.specs.declared.records.Kind.{Kind}
 use Rattle.journal.specs.declared.records.Kind.TheVariants as kind
@@ -101,7 +101,7 @@ blank_power : (blank true).power ≡ true
 unfolding blank
 blank_power = refl
 
-all_powered : (xs : List Station) (ms : List ℕ) → All (λ (s : ℕ). power_at xs s ≡ true) ms → all_power xs ms ≡ true
+all_powered : (xs : List Station) (ms : List ℕ) → AllByRecursion (λ (s : ℕ). power_at xs s ≡ true) ms → all_power xs ms ≡ true
 unfolding all_power
 all_powered xs [] h = refl
 all_powered xs (s ∷ ms) h = λ i. cond_and (h.0 i) (all_powered xs ms h.1 i)

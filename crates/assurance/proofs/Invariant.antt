@@ -1,6 +1,6 @@
 -- Every call keeps both invariants; from them: one outcome.
 use Rattle.std.proofs.Common.{◌≡◌, ℕ, zero, suc, ◌+◌, ◌<◌, Bool, true, false, cond, not, ◌&&◌, eqb, ltb, List, [], ◌∷◌, ◌++◌, length, get_or, sym, refl, ap, ◌∙◌, subst, inl, inr, arith}
-use Rattle.std.specs.List.{AllByRecursion as All, range_with_len}
+use Rattle.std.specs.List.{AllByRecursion, range_with_len}
 use Rattle.std.proofs.ByRecursion.{All-get_or}
 use Rattle.std.proofs.lemmas.Bool.Decides.{nat_tests}
 use Rattle.std.proofs.lemmas.Bool.{cond_both, cases_Bool, true≢false, eqb-true, and_parts, not-true, ltb-true}
@@ -187,12 +187,12 @@ module _ (π : Presumption) (𝓛 : Laws π) where
       }
 
   -- every call
-  pub all_drop_at : {X : Type 0} (P : X → Type 0) (n : ℕ) (l : List X) → All P l → All P (drop_at n l)
+  pub all_drop_at : {X : Type 0} (P : X → Type 0) (n : ℕ) (l : List X) → AllByRecursion P l → AllByRecursion P (drop_at n l)
   all_drop_at P n [] h = tt
   all_drop_at P zero (x ∷ l) h = h.1
   all_drop_at P (suc n) (x ∷ l) h = (h.0, all_drop_at P n l h.1)
 
-  pub inv_post : (st : Run) (p : List Message) → Inv st → All (Legal π (world st)) p → Inv (with_post p st)
+  pub inv_post : (st : Run) (p : List Message) → Inv st → AllByRecursion (Legal π (world st)) p → Inv (with_post p st)
   inv_post st p h a = record { safe = record { msgs = a; installs = h.safe.installs; drops = h.safe.drops; recs = h.safe.recs; cos = h.safe.cos; subs = h.safe.subs }; tidy = h.tidy }
 
   pub inv_handed : (m : MessageKind) (r s t f k : ℕ) (st : Run) → (st.station s).power ≡ true → Inv st → Legal π (world st) (letter m r t s) → Inv (handed π m r s t f k st)
@@ -216,7 +216,7 @@ module _ (π : Presumption) (𝓛 : Laws π) where
   -- settling keeps it
   pub inv_first : (m : Message) (ms : List Message) (st : Run) → m ∷ ms ≡ st.post → Inv st → Inv (hand_first π m (with_post ms st))
   inv_first m ms st e h =
-      let a : All (Legal π (world st)) (m ∷ ms) = subst (All (Legal π (world st))) (sym e) h.safe.msgs in
+      let a : AllByRecursion (Legal π (world st)) (m ∷ ms) = subst (AllByRecursion (Legal π (world st))) (sym e) h.safe.msgs in
       let h' : Inv (with_post ms st) = inv_post st ms h a.1 in
       cond_both (st.station m.to).power (handed π m.mail m.revision m.to m.from 255 0 (with_post ms st)) (with_post ms st) Inv
       (λ on. inv_handed m.mail m.revision m.to m.from 255 0 (with_post ms st) on h' a.0)
@@ -277,7 +277,7 @@ module _ (π : Presumption) (𝓛 : Laws π) where
       (λ lt. let m : Message = get_or st.post i (letter ACK 0 0 0) in
       let l : Legal π (world st) m = All-get_or _ st.post i (letter ACK 0 0 0) (ltb-true i (length st.post) lt) h.safe.msgs in
       let p : List Message = cond copy st.post (drop_at i st.post) in
-      let h' : Inv (with_post p st) = inv_post st p h (cond_both copy st.post (drop_at i st.post) (All (Legal π (world st))) (λ _. h.safe.msgs) (λ _. all_drop_at _ i st.post h.safe.msgs)) in
+      let h' : Inv (with_post p st) = inv_post st p h (cond_both copy st.post (drop_at i st.post) (AllByRecursion (Legal π (world st))) (λ _. h.safe.msgs) (λ _. all_drop_at _ i st.post h.safe.msgs)) in
       cond_both (st.station m.to).power (handed π m.mail m.revision m.to m.from f k (with_post p st)) (with_post p st) Inv
       (λ on. inv_handed m.mail m.revision m.to m.from f k (with_post p st) on h' l)
       (λ _. h'))
@@ -303,7 +303,7 @@ module _ (π : Presumption) (𝓛 : Laws π) where
   pub no_commit : (st : Run) → SafeSt π st → (r s : ℕ) → Abort (world st) r → No kC r (st.station s)
   no_commit st h r s a = (none_in (st.station s).stable (h.recs s).0 (λ d e. rw e d.0.0), none_in (st.station s).loose (h.recs s).1 (λ d e. rw e d.0.1))
     where
-      none_in : (l : List Record) → All (RecLegal π (world st) s) l → (Doom r (head (world st) r) → s ≡ (st.plan r).coordinator → has kC r l ≡ false) → has kC r l ≡ false
+      none_in : (l : List Record) → AllByRecursion (RecLegal π (world st) s) l → (Doom r (head (world st) r) → s ≡ (st.plan r).coordinator → has kC r l ≡ false) → has kC r l ≡ false
       none_in l k clean =
           elim (cases_Bool (has kC r l)) [
             | inl e ↦ (let q = has_legal π (world st) s kC r l k e in

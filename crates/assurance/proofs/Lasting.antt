@@ -1,6 +1,6 @@
 -- Facts about one station that last, and the invariant that holds between acts: whatever is present has its lasting reason.
 use Rattle.std.proofs.Common.{◌≡◌, ℕ, zero, suc, ◌+◌, ◌<◌, ◌≤◌, true, false, ◌||◌, eqb, ◌⊎◌, List, [], ◌∷◌, ◌++◌, take, sym, refl, subst, inl, inr, arith}
-use Rattle.std.specs.List.{AllByRecursion as All}
+use Rattle.std.specs.List.{AllByRecursion}
 use Rattle.std.proofs.ByRecursion.{All-weaker}
 use Rattle.std.proofs.lemmas.Bool.{or_parts, or_from, cond_both, eqb-true}
 use Rattle.assurance.proofs.Ideal.{updated, in_set, Kind, kI, kC, kA, kE, kp, kc, ka, Record, is, has, Outcome, commit, abort, CoordinatorEntry, none, Open, Collecting, Announcing, SubordinateEntry, idle, Active, Prepared, Station, MessageKind, PREPARE, YES, NO, COMMIT, ABORT, ACK, INQUIRY, Message, Plan, Run, Presumption}
@@ -142,10 +142,10 @@ module _ (π : Presumption) where
   SubLegal w s r (Prepared c) = (r < w.count) × (c ≡ (w.plan r).coordinator) × Got kp r (w.station s)
 
   pub record Safe (w : World) (post : List Message) (installed_at dropped_at : ℕ → ℕ) : Type 0 where
-    pub msgs : All (Legal w) post
+    pub msgs : AllByRecursion (Legal w) post
     pub installs : (r s : ℕ) → in_set (installed_at r) s ≡ true → (r < w.count) × Comm w r
     pub drops : (r s : ℕ) → in_set (dropped_at r) s ≡ true → (r < w.count) × Abort w r
-    pub recs : (s : ℕ) → All (RecLegal w s) (w.station s).stable × All (RecLegal w s) (w.station s).loose
+    pub recs : (s : ℕ) → AllByRecursion (RecLegal w s) (w.station s).stable × AllByRecursion (RecLegal w s) (w.station s).loose
     pub cos : (s r : ℕ) → CoLegal w s r ((w.station s).coordinators r)
     pub subs : (s r : ℕ) → SubLegal w s r ((w.station s).subordinates r)
 
@@ -214,10 +214,10 @@ module _ (π : Presumption) where
     sub_grows s r (Active c) h = (known_grows r h.0, rw (g.same r h.0) h.1, rw (g.same r h.0) h.2)
     sub_grows s r (Prepared c) h = (known_grows r h.0, rw (g.same r h.0) h.1, (g.keep s).got kp r h.2)
 
-    pub recs_grow : (s : ℕ) (l : List Record) → All (RecLegal w s) l → All (RecLegal v s) l
+    pub recs_grow : (s : ℕ) (l : List Record) → AllByRecursion (RecLegal w s) l → AllByRecursion (RecLegal v s) l
     recs_grow s l h = All-weaker _ _ (λ x k. (known_grows x.revision k.0, rec_grows s x.kind x.revision x.argument k.0 k.1)) l h
 
-    pub safe_local : (post : List Message) (installed_at dropped_at : ℕ → ℕ) (s : ℕ) → Safe w post installed_at dropped_at → ((t : ℕ) → (s ≡ t) ⊎ (v.station t ≡ w.station t)) → (All (RecLegal v s) (v.station s).stable × All (RecLegal v s) (v.station s).loose) → ((r : ℕ) → CoLegal v s r ((v.station s).coordinators r)) → ((r : ℕ) → SubLegal v s r ((v.station s).subordinates r)) → Safe v post installed_at dropped_at
+    pub safe_local : (post : List Message) (installed_at dropped_at : ℕ → ℕ) (s : ℕ) → Safe w post installed_at dropped_at → ((t : ℕ) → (s ≡ t) ⊎ (v.station t ≡ w.station t)) → (AllByRecursion (RecLegal v s) (v.station s).stable × AllByRecursion (RecLegal v s) (v.station s).loose) → ((r : ℕ) → CoLegal v s r ((v.station s).coordinators r)) → ((r : ℕ) → SubLegal v s r ((v.station s).subordinates r)) → Safe v post installed_at dropped_at
     safe_local post installed_at dropped_at s h other rs cs ss =
         record {
           msgs = All-weaker _ _ (λ m k. (known_grows m.revision k.0, legal_grows m.mail m.revision m.from m.to k.0 k.1)) post h.msgs;
@@ -228,9 +228,9 @@ module _ (π : Presumption) where
           subs = λ t r. subs t r (other t);
         }
       where
-        recs : (t : ℕ) → (s ≡ t) ⊎ (v.station t ≡ w.station t) → All (RecLegal v t) (v.station t).stable × All (RecLegal v t) (v.station t).loose
-        recs t (inl e) = subst (λ (u : ℕ). All (RecLegal v u) (v.station u).stable × All (RecLegal v u) (v.station u).loose) e rs
-        recs t (inr e) = subst (λ (x : Station). All (RecLegal v t) x.stable × All (RecLegal v t) x.loose) (sym e) (recs_grow t _ (h.recs t).0, recs_grow t _ (h.recs t).1)
+        recs : (t : ℕ) → (s ≡ t) ⊎ (v.station t ≡ w.station t) → AllByRecursion (RecLegal v t) (v.station t).stable × AllByRecursion (RecLegal v t) (v.station t).loose
+        recs t (inl e) = subst (λ (u : ℕ). AllByRecursion (RecLegal v u) (v.station u).stable × AllByRecursion (RecLegal v u) (v.station u).loose) e rs
+        recs t (inr e) = subst (λ (x : Station). AllByRecursion (RecLegal v t) x.stable × AllByRecursion (RecLegal v t) x.loose) (sym e) (recs_grow t _ (h.recs t).0, recs_grow t _ (h.recs t).1)
 
         cos : (t r : ℕ) → (s ≡ t) ⊎ (v.station t ≡ w.station t) → CoLegal v t r ((v.station t).coordinators r)
         cos t r (inl e) = subst (λ (u : ℕ). CoLegal v u r ((v.station u).coordinators r)) e (cs r)

@@ -31,5 +31,6 @@ mod Listed
 mod Written
 mod Plainly
 mod Holds
+mod AsData
 mod Marked
 mod Stepwise

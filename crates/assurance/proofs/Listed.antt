@@ -1,7 +1,7 @@
 -- Settling does to the view what the ideal run's settling does, delivery by delivery.
 use Rattle.std.proofs.Common.{◌≡◌, ℕ, zero, suc, ◌+◌, ◌<◌, ◌≤◌, Bool, true, false, cond, ◌&&◌, ltb, List, [], ◌∷◌, map, length, get_or, None, sym, refl, ap, ◌∙◌, subst, arith}
 use Rattle.std.proofs.lemmas.Bool.{cond-true, true≢false}
-use Rattle.std.specs.List.{AllByRecursion as All, range_with_len}
+use Rattle.std.specs.List.{AllByRecursion, range_with_len}
 use Rattle.presumption.specs.Answers.{Answers, Lawful}
 use Rattle.station.specs.Acts.{post}
 use Rattle.station.specs.declared.coordinator.CoordinatorEntry.{CoordinatorEntry}
@@ -154,7 +154,7 @@ module _ (π : Answers) (𝓗 : Lawful π) (n : ℕ) (two : 2 ≤ n) (eight : n 
   fine_asked : (r s : ℕ) (st u : State) → s < n → Fine st → To u (ideal.asked Q r s (view n st)) → Fine u
   fine_asked r s st u l g t = record { shape = t.1; full = subst (Full Q (laws π 𝓗 n two eight)) (sym t.0) (full_asked Q (laws π 𝓗 n two eight) r s (view n st) l g.full) }
 
-  resolved_view : (r : ℕ) (ss : List ℕ) → All (λ (s : ℕ). s < n) ss → (x : Progress) (v : ideal.Run) (k : ℕ) → Fine x.state → view n x.state ≡ v → x.deliveries ≡ k → Same (resolved π r ss x) (ideal.inquire_all Q r ss v k)
+  resolved_view : (r : ℕ) (ss : List ℕ) → AllByRecursion (λ (s : ℕ). s < n) ss → (x : Progress) (v : ideal.Run) (k : ℕ) → Fine x.state → view n x.state ≡ v → x.deliveries ≡ k → Same (resolved π r ss x) (ideal.inquire_all Q r ss v k)
   unfolding resolved ideal.inquire_all
   resolved_view r [] h x v k g e q = record { good = g; left = e; made = q }
   resolved_view r (s ∷ ss) h x v k g e q =

@@ -4,7 +4,7 @@ use mathlib.Core.Path.{fun_ext}
 use lib.Bits.{bit_or}
 use Rattle.std.proofs.lemmas.Bool.Decides.{nat_tests}
 use Rattle.std.proofs.lemmas.Bool.{cond-true, cond-false, cases_eq, true≢false, eq-eqb, ne_eqb}
-use Rattle.std.specs.List.{AllByRecursion as All, range_with_len}
+use Rattle.std.specs.List.{AllByRecursion, range_with_len}
 use Rattle.journal.specs.declared.records.Kind.TheVariants as kind
 use Rattle.journal.specs.declared.records.Record.{Record}
 use Rattle.presumption.specs.Answers.{Answers, Lawful}
@@ -139,15 +139,15 @@ from_as outcome.Commit = refl
 from_as outcome.Abort = refl
 
 -- the marks of a step are of its revision
-logged_each : (c : ℕ) (k : MessageKind) (r s : ℕ) (ts : List ℕ) → All (Logged 0 c) (map (λ t. post (letter k r s t)) ts)
+logged_each : (c : ℕ) (k : MessageKind) (r s : ℕ) (ts : List ℕ) → AllByRecursion (Logged 0 c) (map (λ t. post (letter k r s t)) ts)
 logged_each c k r s [] = tt
 logged_each c k r s (t ∷ ts) = (tt, logged_each c k r s ts)
 
-logged_if : (c : ℕ) (b : Bool) (l : List Act) → All (Logged 0 c) l → All (Logged 0 c) (if_so b l)
+logged_if : (c : ℕ) (b : Bool) (l : List Act) → AllByRecursion (Logged 0 c) l → AllByRecursion (Logged 0 c) (if_so b l)
 logged_if c true l h = h
 logged_if c false l h = tt
 
-logged_log : (c : ℕ) (l : Logging) (x : Record) → All (Logged 0 c) (logged l x)
+logged_log : (c : ℕ) (l : Logging) (x : Record) → AllByRecursion (Logged 0 c) (logged l x)
 logged_log c logging.NotAtAll x = tt
 logged_log c logging.Unforced x = (tt, tt)
 logged_log c logging.Forced x = (tt, (tt, tt))
@@ -156,7 +156,7 @@ logged_mark : (c : ℕ) (o : Outcome) (r : ℕ) → r < c → Logged 0 c (mark o
 logged_mark c outcome.Commit r h = h
 logged_mark c outcome.Abort r h = h
 
-logged_acts : (π : Answers) (c s r : ℕ) (x : Step) → r < c → All (Logged 0 c) (acts π s r x)
+logged_acts : (π : Answers) (c s r : ℕ) (x : Step) → r < c → AllByRecursion (Logged 0 c) (acts π s r x)
 logged_acts π c s r step.Rest h = tt
 logged_acts π c s r (step.OpenVote x) h = All-append (Logged 0 c) (if_so π.opens (write (line kind.Opening r x.bits) ∷ force ∷ [])) _ (logged_if c π.opens _ (tt, (tt, tt))) (logged_each c message.Prepare r s (members x))
 logged_acts π c s r (step.Prepare d t) h = (tt, (tt, (tt, tt)))

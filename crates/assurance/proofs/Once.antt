@@ -1,6 +1,6 @@
 -- One revision opened, closed and settled takes at most four deliveries for each of its stations.
 use Rattle.std.proofs.Common.{◌≡◌, ℕ, zero, suc, ◌+◌, ◌*◌, ◌^◌, ◌<◌, ◌≤◌, true, false, cond, ◌&&◌, eqb, ltb, ◌⊎◌, List, [], ◌∷◌, ◌++◌, length, filter, sym, refl, ap, ◌∙◌, subst, inl, inr, arith, length-append}
-use Rattle.std.specs.List.{AllByRecursion as All, range_with_len}
+use Rattle.std.specs.List.{AllByRecursion, range_with_len}
 use Rattle.std.proofs.ByRecursion.{All-push, kept_by_passes}
 use Rattle.std.proofs.lemmas.Bool.Decides.{nat_tests}
 use Rattle.std.proofs.lemmas.Bool.{cond_both, cond-true, cond-false, cases_Bool, true≢false, eqb-true, eq-eqb, and_parts, not-true, ltb-true}
@@ -107,7 +107,7 @@ module _ (π : Presumption) (𝓛 : Laws π) (r c all : ℕ) (st0 : Run) (sets :
     pub some : ys ≡ all → ⊥
     pub within : (u : ℕ) → in_set ys u ≡ true → in_set all u ≡ true
     pub busy : (t : ℕ) → in_set all t ≡ true → Busy ((st.station t).subordinates r)
-    pub posts : All VoteM st.post
+    pub posts : AllByRecursion VoteM st.post
     pub cover : Cover ys st.post
     pub few : length st.post + card π.size ys ≤ card π.size all
     pub left : vload st.post + 2 * card π.size ys ≤ b
@@ -322,11 +322,11 @@ module _ (π : Presumption) (𝓛 : Laws π) (r c all : ℕ) (st0 : Run) (sets :
       vote_rev INQUIRY q s t h = absurd h
 
       rev_of' : Voting b st ⊎ Telling b st → m.revision ≡ r
-      rev_of' (inl v) = let a : All VoteM (m ∷ ms) = subst (All VoteM) (sym e) v.posts in vote_rev m.mail m.revision m.from m.to a.0
-      rev_of' (inr v) = let a : All (Mild r c) (m ∷ ms) = subst (All (Mild r c)) (sym e) v.tri.0 in Rattle.assurance.proofs.UnderWay.rev_of π 𝓛 r c m.mail m.revision m.from m.to a.0
+      rev_of' (inl v) = let a : AllByRecursion VoteM (m ∷ ms) = subst (AllByRecursion VoteM) (sym e) v.posts in vote_rev m.mail m.revision m.from m.to a.0
+      rev_of' (inr v) = let a : AllByRecursion (Mild r c) (m ∷ ms) = subst (AllByRecursion (Mild r c)) (sym e) v.tri.0 in Rattle.assurance.proofs.UnderWay.rev_of π 𝓛 r c m.mail m.revision m.from m.to a.0
 
       over : Voting b st → Voting b (with_post (m ∷ ms) st)
-      over v = record { ys = v.ys; entry = v.entry; some = v.some; within = v.within; busy = v.busy; posts = subst (All VoteM) (sym e) v.posts; cover = subst (Cover v.ys) (sym e) v.cover; few = subst (λ (p : List Message). length p + card π.size v.ys ≤ card π.size all) (sym e) v.few; left = subst (λ (p : List Message). vload p + 2 * card π.size v.ys ≤ b) (sym e) v.left }
+      over v = record { ys = v.ys; entry = v.entry; some = v.some; within = v.within; busy = v.busy; posts = subst (AllByRecursion VoteM) (sym e) v.posts; cover = subst (Cover v.ys) (sym e) v.cover; few = subst (λ (p : List Message). length p + card π.size v.ys ≤ card π.size all) (sym e) v.few; left = subst (λ (p : List Message). vload p + 2 * card π.size v.ys ≤ b) (sym e) v.left }
 
       voted : (k : MessageKind) (q s t : ℕ) → Voting b (with_post (letter k q t s ∷ ms) st) → VoteOf k q t s → (d : ℕ) × (suc d ≤ b) × (Voting d (handed π k q s t 255 0 (with_post ms st)) ⊎ Telling d (handed π k q s t 255 0 (with_post ms st)))
       voted PREPARE q s t v h = subst (λ (x : ℕ). Out b ms st PREPARE x s t) (sym h.0) (subst (λ (x : ℕ). Out b ms st PREPARE r s x) (sym h.1) (λ v. let q = hand_prepare b s ms st v h.2 in (q.0, q.1, inl q.2))) v
@@ -341,7 +341,7 @@ module _ (π : Presumption) (𝓛 : Laws π) (r c all : ℕ) (st0 : Run) (sets :
       step_phase (inl v) = voted m.mail m.revision m.to m.from (over v) (over v).posts.0
       step_phase (inr v) =
           let w = handed π m.mail m.revision m.to m.from 255 0 (with_post ms st) in
-          let a : All (Mild r c) (m ∷ ms) = subst (All (Mild r c)) (sym e) v.tri.0 in
+          let a : AllByRecursion (Mild r c) (m ∷ ms) = subst (AllByRecursion (Mild r c)) (sym e) v.tri.0 in
           let f = first_on π 𝓛 m ms st g.on in
           let D = did_handed π m.mail m.revision m.to m.from 255 0 (with_post ms st) in
           let mid = mid_first π 𝓛 r c st0 m ms st e (record { inv = g.inv; on = g.on; own = g.own; side = g.side; tri = v.tri }) in
@@ -474,11 +474,11 @@ module _ (π : Presumption) (𝓛 : Laws π) (c all : ℕ) (ok : fits π.size c 
   active : (t : ℕ) → in_set all t ≡ true → (st1.station t).subordinates 0 ≡ Active c
   active t m = ap (λ (f : ℕ → SubordinateEntry). f 0) (cond-true (in_set all t) (updated up.subordinates 0 (Active c)) up.subordinates m)
 
-  vote_sends : (ts : List ℕ) → All (λ t. in_set all t ≡ true) ts → All (VoteM π 𝓛 0 c all w below) (letters (send_each PREPARE 0 c ts))
+  vote_sends : (ts : List ℕ) → AllByRecursion (λ t. in_set all t ≡ true) ts → AllByRecursion (VoteM π 𝓛 0 c all w below) (letters (send_each PREPARE 0 c ts))
   vote_sends [] h = tt
   vote_sends (t ∷ ts) h = ((refl, refl, h.0), vote_sends ts h.1)
 
-  passes : All (λ t. in_set all t ≡ true) (members π.size all)
+  passes : AllByRecursion (λ t. in_set all t ≡ true) (members π.size all)
   unfolding members
   passes = kept_by_passes (in_set all) (range_with_len 0 π.size)
 

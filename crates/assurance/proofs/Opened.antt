@@ -4,7 +4,7 @@ use mathlib.Core.Path.{fun_ext}
 use Rattle.std.proofs.lemmas.Bool.Decides.{nat_tests}
 use Rattle.std.proofs.lemmas.Bool.{cond-true, cond-false, cases_Bool, cases_eq, cases_lt, true≢false, eq-eqb, ne_eqb, and_parts, not-true}
 use Rattle.std.proofs.lemmas.List.{get_or_past, get_or_push, length_push}
-use Rattle.std.specs.List.{AllByRecursion as All, range_with_len}
+use Rattle.std.specs.List.{AllByRecursion, range_with_len}
 use Rattle.journal.specs.Meaning.{section}
 use Rattle.presumption.specs.Answers.{Answers, Lawful}
 use Rattle.station.specs.Acts.{post}
@@ -85,7 +85,7 @@ F r c y = set_subordinate r (subordinate.Active c) y
 twice : (r c : ℕ) (y : Station) → F r c (F r c y) ≡ F r c y
 twice r c y = ap (λ (l : List SubordinateEntry). record { power = y.power; coordinators = y.coordinators; subordinates = l }) (set-set y.subordinates r (subordinate.Active c) (subordinate.Active c))
 
-activated_at : (r c s n : ℕ) (ms : List ℕ) (xs : List Station) → length xs ≡ n → All (λ (m : ℕ). m < n) ms → station_at (activated r c ms xs) s ≡ cond (among s ms) (F r c (station_at xs s)) (station_at xs s)
+activated_at : (r c s n : ℕ) (ms : List ℕ) (xs : List Station) → length xs ≡ n → AllByRecursion (λ (m : ℕ). m < n) ms → station_at (activated r c ms xs) s ≡ cond (among s ms) (F r c (station_at xs s)) (station_at xs s)
 unfolding activated
 activated_at r c s n [] xs e h = refl
 activated_at r c s n (m ∷ ms) xs e h =
@@ -101,13 +101,13 @@ activated_at r c s n (m ∷ ms) xs e h =
     same true y = refl
     same false y = refl
 
-activated_shape : (n r c : ℕ) (ms : List ℕ) (u : State) → All (λ (m : ℕ). m < n) ms → Shape n u → Shape n (with_stations (activated r c ms u.stations) u)
+activated_shape : (n r c : ℕ) (ms : List ℕ) (u : State) → AllByRecursion (λ (m : ℕ). m < n) ms → Shape n u → Shape n (with_stations (activated r c ms u.stations) u)
 unfolding activated
 activated_shape n r c [] u h k = record { fit = k.fit; some = k.some; small = k.small; stations = k.stations; journals = k.journals; wide = k.wide; cos = k.cos; subs = k.subs; sets = k.sets }
 activated_shape n r c (m ∷ ms) u h k = activated_shape n r c ms (with_stations (with_subordinate m r (subordinate.Active c) u.stations) u) h.1 (shape_turn n m r (turn.Subordinate (subordinate.Active c)) u h.0 k)
 
 -- powers
-pub powers : (n : ℕ) (st : State) (ms : List ℕ) → All (λ (m : ℕ). m < n) ms → ideal.all_powered ms (view n st) ≡ all_power st.stations ms
+pub powers : (n : ℕ) (st : State) (ms : List ℕ) → AllByRecursion (λ (m : ℕ). m < n) ms → ideal.all_powered ms (view n st) ≡ all_power st.stations ms
 unfolding all_power
 powers n st [] h = refl
 powers n st (m ∷ ms) h = λ i. cond (lt_true m n h.0 i) (power_at st.stations m) true && powers n st ms h.1 i
@@ -174,8 +174,8 @@ module _ (π : Answers) (𝓗 : Lawful π) (n : ℕ) (two : 2 ≤ n) (eight : n 
   Y = with_stations (activated R c (members x) Xs) st
 
   module _ (h : c < n) (w : Within n x.bits) (l : R < 32) where
-    ms_below : All (λ (m : ℕ). m < n) (members x)
-    ms_below = subst (All (λ (m : ℕ). m < n)) (sym (members_as n x eight w)) (members_below n x.bits)
+    ms_below : AllByRecursion (λ (m : ℕ). m < n) (members x)
+    ms_below = subst (AllByRecursion (λ (m : ℕ). m < n)) (sym (members_as n x eight w)) (members_below n x.bits)
 
     among_is : (s : ℕ) → among s (members x) ≡ ideal.in_set x.bits s
     among_is s = ap (among s) (members_as n x eight w) ∙ among_members n x.bits s w

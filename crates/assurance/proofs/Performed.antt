@@ -6,7 +6,7 @@ use lib.ListN.{length-map}
 use Rattle.std.proofs.lemmas.Bool.Decides.{nat_tests}
 use Rattle.std.proofs.lemmas.Bool.{cond-true, cond-false, cases_eq, cases_lt, eq-eqb}
 use Rattle.std.proofs.lemmas.List.{map_push, take-map, get_or_past}
-use Rattle.std.specs.List.{AllByRecursion as All}
+use Rattle.std.specs.List.{AllByRecursion}
 use Rattle.journal.specs.Meaning.{Section, section, held, changed, write_answer, written, cut_to, put, force_all, keep_first}
 use Rattle.journal.specs.declared.records.Record.{Record}
 use Rattle.presumption.specs.declared.outcome.Outcome.{Outcome}
@@ -218,7 +218,7 @@ module _ (n : ℕ) where
   accepts s (mark_dropped r) st h k c = tt
 
   -- a list of acts, every write of which is accepted
-  pub acts_view : (s : ℕ) (l : List Act) (st : State) → s < n → Shape n st → All (Logged (length st.store.log)) l → records (locals (map act_as l) ((view n st).station s)) ≤ 160
+  pub acts_view : (s : ℕ) (l : List Act) (st : State) → s < n → Shape n st → AllByRecursion (Logged (length st.store.log)) l → records (locals (map act_as l) ((view n st).station s)) ≤ 160
       → (view n (with_store (all_done s l st.store) st) ≡ ideal.acts_done s (map act_as l) (view n st)) × Shape n (with_store (all_done s l st.store) st) × Accepted s l st.store
   unfolding all_done
   acts_view s [] st h k g b = (refl, record { fit = k.fit; some = k.some; small = k.small; stations = k.stations; journals = k.journals; wide = k.wide; cos = k.cos; subs = k.subs; sets = k.sets }, tt)
@@ -228,7 +228,7 @@ module _ (n : ℕ) where
       let e = act_view s a st h k c in
       let here : (view n u).station s ≡ local (act_as a) ((view n st).station s) = ap (λ (v : ideal.Run). v.station s) e ∙ (at_act s s (act_as a) (view n st) ∙ cond-true (eqb s s) _ _ (eq-eqb s s refl)) in
       let more = acts_view s l u h (shape_act s a st h k c)
-      (subst (λ (c : ℕ). All (Logged c) l) (sym (log_kept s a st.store)) g.1)
+      (subst (λ (c : ℕ). AllByRecursion (Logged c) l) (sym (log_kept s a st.store)) g.1)
       (subst (λ (y : ideal.Station). records (locals (map act_as l) y) ≤ 160) (sym here) b) in
       (more.0 ∙ ap (ideal.acts_done s (map act_as l)) e, more.1, (accepts s a st h k c, more.2))
 
@@ -332,7 +332,7 @@ module _ (n : ℕ) where
   shape_cut s k st h q = shape_station (blank false) s (with_store (journal_cut s k st.store) st) h (blank_cos false) (blank_subs false) (shape_section (keep_first k) s st h (λ p. refl) q)
 
   -- a whole step, under any fuse
-  pub step_view : (s r : ℕ) (l : List Act) (tn : Turn) (f k : ℕ) (st : State) → s < n → r < 32 → Shape n st → All (Logged (length st.store.log)) l → records (locals (map act_as l) ((view n st).station s)) ≤ 160
+  pub step_view : (s r : ℕ) (l : List Act) (tn : Turn) (f k : ℕ) (st : State) → s < n → r < 32 → Shape n st → AllByRecursion (Logged (length st.store.log)) l → records (locals (map act_as l) ((view n st).station s)) ≤ 160
       → (view n (stepped s r l tn f k st) ≡ ideal.step s (map act_as l) (turn_as r tn) f k (view n st)) × Shape n (stepped s r l tn f k st) × Accepted s l st.store
   unfolding stepped
   step_view s r l tn f k st h lr q g b = let p = go (burns f l) refl in (p.0, p.1, all_acts.2)

@@ -1,6 +1,6 @@
 -- Settling is nothing but deliveries, give-ups, chases and inquiries.
 use Rattle.std.proofs.Common.{◌≡◌, ℕ, zero, suc, Bool, true, false, cond, ltb, List, [], ◌∷◌, ◌++◌, length, sym, refl, ap, ◌∙◌}
-use Rattle.std.specs.List.{AllByRecursion as All, range_with_len}
+use Rattle.std.specs.List.{AllByRecursion, range_with_len}
 use Rattle.std.proofs.ByRecursion.{All-append}
 use Rattle.presumption.specs.Answers.{Answers}
 use Rattle.run.specs.Answers.{answered}
@@ -20,7 +20,7 @@ use Rattle.assurance.specs.Writes.{Plain}
 module _ (π : Answers) where
   -- plain calls lead from one state to another
   abbrev pub Leads : State → State → Type 0
-  Leads st u = (more : List Call) × All Plain more × (u ≡ after_calls π more st)
+  Leads st u = (more : List Call) × AllByRecursion Plain more × (u ≡ after_calls π more st)
 
   after_both : (a b : List Call) (st : State) → after_calls π (a ++ b) st ≡ after_calls π b (after_calls π a st)
   after_both [] b st = refl

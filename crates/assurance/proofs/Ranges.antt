@@ -1,6 +1,6 @@
 -- Stations stay in range, a commit record was marked first, marks last.
 use Rattle.std.proofs.Common.{◌≡◌, ℕ, zero, suc, ◌+◌, ◌<◌, ◌≤◌, Bool, true, false, not, ◌&&◌, eqb, ltb, ◌⊎◌, List, [], ◌∷◌, ◌++◌, length, take, sym, refl, ◌∙◌, subst, inl, inr, arith}
-use Rattle.std.specs.List.{AllByRecursion as All}
+use Rattle.std.specs.List.{AllByRecursion}
 use Rattle.std.proofs.ByRecursion.{All-push, All-append, All-take}
 use Rattle.std.proofs.lemmas.Bool.Decides.{nat_tests}
 use Rattle.std.proofs.lemmas.Bool.{cond_both, cond-true, cases_Bool, true≢false, eqb-true, eq-eqb}
@@ -17,7 +17,7 @@ abbrev pub NearM : ℕ → Message → Type 0
 NearM n m = (m.from < n) × (m.to < n)
 
 pub record Near (n : ℕ) (st : Run) : Type 0 where
-  pub posts : All (NearM n) st.post
+  pub posts : AllByRecursion (NearM n) st.post
   pub plans : (r : ℕ) → (st.plan r).coordinator < n
   pub sets : (r t : ℕ) → in_set (st.plan r).names t ≡ true → t < n
   pub far : (s : ℕ) → n ≤ s → (st.station s).power ≡ true
@@ -32,11 +32,11 @@ NearA n (dropped r) = Unit {0}
 near_act : (n s : ℕ) (a : Act) (st : Run) → NearA n a → Near n st → Near n (act_done s a st)
 near_act n s (write x) st k h = record { posts = h.posts; plans = h.plans; sets = h.sets; far = λ t l. grind (arith, nat_tests, h.far t) }
 near_act n s force st k h = record { posts = h.posts; plans = h.plans; sets = h.sets; far = λ t l. grind (arith, nat_tests, h.far t) }
-near_act n s (send m) st k h = record { posts = cond_both (ltb (length st.post) 64) (st.post ++ (m ∷ [])) st.post (All (NearM n)) (λ _. All-push _ st.post m h.posts k) (λ _. h.posts); plans = h.plans; sets = h.sets; far = h.far }
+near_act n s (send m) st k h = record { posts = cond_both (ltb (length st.post) 64) (st.post ++ (m ∷ [])) st.post (AllByRecursion (NearM n)) (λ _. All-push _ st.post m h.posts k) (λ _. h.posts); plans = h.plans; sets = h.sets; far = h.far }
 near_act n s (installed r) st k h = record { posts = h.posts; plans = h.plans; sets = h.sets; far = h.far }
 near_act n s (dropped r) st k h = record { posts = h.posts; plans = h.plans; sets = h.sets; far = h.far }
 
-near_acts : (n s : ℕ) (l : List Act) (st : Run) → All (NearA n) l → Near n st → Near n (acts_done s l st)
+near_acts : (n s : ℕ) (l : List Act) (st : Run) → AllByRecursion (NearA n) l → Near n st → Near n (acts_done s l st)
 near_acts n s [] st k h = h
 near_acts n s (a ∷ l) st k h = near_acts n s l (act_done s a st) k.1 (near_act n s a st k.0 h)
 
@@ -48,32 +48,32 @@ near_turn n s stay st l h = h
 near_turn n s (to_coordinator r e) st l h = near_in n s (set_coordinator r e) st l h
 near_turn n s (to_subordinate r e) st l h = near_in n s (set_subordinate r e) st l h
 
-near_step : (n s : ℕ) (l : List Act) (tn : Turn) (f k : ℕ) (st : Run) → s < n → All (NearA n) l → Near n st → Near n (step s l tn f k st)
+near_step : (n s : ℕ) (l : List Act) (tn : Turn) (f k : ℕ) (st : Run) → s < n → AllByRecursion (NearA n) l → Near n st → Near n (step s l tn f k st)
 near_step n s l tn f k st i a h =
     cond_both (ltb f (length l)) (at_station s (cut_station k) (acts_done s (take f l) st)) (turn s tn (acts_done s l st)) (Near n)
     (λ _. near_in n s (cut_station k) (acts_done s (take f l) st) i (near_acts n s (take f l) st (All-take _ f l a) h))
     (λ _. near_turn n s tn (acts_done s l st) i (near_acts n s l st a h))
 
-near_sends : (n : ℕ) (k : MessageKind) (r s : ℕ) (ts : List ℕ) → s < n → All (λ u. u < n) ts → All (NearA n) (send_each k r s ts)
+near_sends : (n : ℕ) (k : MessageKind) (r s : ℕ) (ts : List ℕ) → s < n → AllByRecursion (λ u. u < n) ts → AllByRecursion (NearA n) (send_each k r s ts)
 near_sends n k r s [] l h = tt
 near_sends n k r s (t ∷ ts) l h = ((l, h.0), near_sends n k r s ts l h.1)
 
 module _ (π : Presumption) (𝓛 : Laws π) where
-  near_tail : (F A : Bool) (r s c : ℕ) → s < π.size → c < π.size → All (NearA π.size) (force_if π F (ack_if π A r s c))
+  near_tail : (F A : Bool) (r s c : ℕ) → s < π.size → c < π.size → AllByRecursion (NearA π.size) (force_if π F (ack_if π A r s c))
   near_tail true true r s c i j = (tt, ((i, j), tt))
   near_tail true false r s c i j = (tt, tt)
   near_tail false true r s c i j = ((i, j), tt)
   near_tail false false r s c i j = tt
 
-  near_log : (l : Logging) (x : Record) → All (NearA π.size) (logged l x)
+  near_log : (l : Logging) (x : Record) → AllByRecursion (NearA π.size) (logged l x)
   near_log not_at_all x = tt
   near_log unforced x = (tt, tt)
   near_log forced x = (tt, (tt, tt))
 
-  near_end : (r all d : ℕ) → All (NearA π.size) (end_acts π r all d)
-  near_end r all d = cond_both (not (eqb (π.ackers abort all) 0) && eqb (π.ackers abort d) 0) (write (line kE r 0) ∷ []) [] (All (NearA π.size)) (λ _. (tt, tt)) (λ _. tt)
+  near_end : (r all d : ℕ) → AllByRecursion (NearA π.size) (end_acts π r all d)
+  near_end r all d = cond_both (not (eqb (π.ackers abort all) 0) && eqb (π.ackers abort d) 0) (write (line kE r 0) ∷ []) [] (AllByRecursion (NearA π.size)) (λ _. (tt, tt)) (λ _. tt)
 
-  near_rule : (u : Rule) (r s t : ℕ) (st : Run) → SafeSt π st → Near π.size st → s < π.size → t < π.size → Why π (st.station s) r t u → All (NearA π.size) (acts_of π u r s t)
+  near_rule : (u : Rule) (r s t : ℕ) (st : Run) → SafeSt π st → Near π.size st → s < π.size → t < π.size → Why π (st.station s) r t u → AllByRecursion (NearA π.size) (acts_of π u r s t)
   near_rule (vote c) r s t st h n i j w = (tt, (tt, ((i, j), tt)))
   near_rule again r s t st h n i j w = ((i, j), tt)
   near_rule refuse r s t st h n i j w = ((i, j), tt)
@@ -85,14 +85,14 @@ module _ (π : Presumption) (𝓛 : Laws π) where
       near_c : c < π.size
       near_c = elim w [ inl e ↦ rw (subst (λ v. SubLegal π (world st) s r v) e (h.subs s r)).1 (n.plans r) | inr e ↦ rw (subst (λ v. SubLegal π (world st) s r v) e (h.subs s r)).1 (n.plans r) ]
 
-      go : (o : Outcome) → All (NearA π.size) (enforce_acts π o r s c)
+      go : (o : Outcome) → AllByRecursion (NearA π.size) (enforce_acts π o r s c)
       go commit = (tt, (tt, near_tail (π.forces commit s) (π.acks commit s) r s c i near_c))
       go abort = (tt, (tt, near_tail (π.forces abort s) (π.acks abort s) r s c i near_c))
   near_rule (confirm o) r s t st h n i j w = near_tail false (π.acks o s) r s t i j
   near_rule (less o v) r s t st h n i j w = tt
   near_rule finish r s t st h n i j w = (tt, tt)
   near_rule (answer o) r s t st h n i j w = ((i, j), tt)
-  near_rule (start all) r s t st h n i j w = cond_both (π.opens all) (write (line kI r all) ∷ (force ∷ send_each PREPARE r s (members π.size all))) (send_each PREPARE r s (members π.size all)) (All (NearA π.size)) (λ _. (tt, (tt, near_sends π.size PREPARE r s (members π.size all) i (members_below π.size all)))) (λ _. near_sends π.size PREPARE r s (members π.size all) i (members_below π.size all))
+  near_rule (start all) r s t st h n i j w = cond_both (π.opens all) (write (line kI r all) ∷ (force ∷ send_each PREPARE r s (members π.size all))) (send_each PREPARE r s (members π.size all)) (AllByRecursion (NearA π.size)) (λ _. (tt, (tt, near_sends π.size PREPARE r s (members π.size all) i (members_below π.size all)))) (λ _. near_sends π.size PREPARE r s (members π.size all) i (members_below π.size all))
   near_rule (deny c) r s t st h n i j w = (tt, (tt, near_tail (π.forces abort s) false r s s i i))
   near_rule (press o v) r s t st h n i j w = near_sends π.size (outcome_mail o) r s (members π.size v) i (members_below π.size v)
   near_rule (asks c) r s t st h n i j w = ((i, rw (subst (λ v. SubLegal π (world st) s r v) w (h.subs s r)).1 (n.plans r)), tt)
@@ -161,7 +161,7 @@ Plain (send m) = Unit {0}
 Plain (installed r) = Unit {0}
 Plain (dropped r) = Unit {0}
 
-plain_marks : (s : ℕ) (l : List Act) (st : Run) → All Plain l → Marks s l st
+plain_marks : (s : ℕ) (l : List Act) (st : Run) → AllByRecursion Plain l → Marks s l st
 plain_marks s [] st h = tt
 plain_marks s (write x ∷ l) st h = (λ r e. absurd (true≢false (sym e ∙ h.0 r)), plain_marks s l (act_done s (write x) st) h.1)
 plain_marks s (force ∷ l) st h = (tt, plain_marks s l (act_done s force st) h.1)
@@ -169,24 +169,24 @@ plain_marks s (send m ∷ l) st h = (tt, plain_marks s l (with_message m st) h.1
 plain_marks s (installed r ∷ l) st h = (tt, plain_marks s l (marked_installed r s st) h.1)
 plain_marks s (dropped r ∷ l) st h = (tt, plain_marks s l (marked_dropped r s st) h.1)
 
-plain_sends : (k : MessageKind) (r s : ℕ) (ts : List ℕ) → All Plain (send_each k r s ts)
+plain_sends : (k : MessageKind) (r s : ℕ) (ts : List ℕ) → AllByRecursion Plain (send_each k r s ts)
 plain_sends k r s [] = tt
 plain_sends k r s (t ∷ ts) = (tt, plain_sends k r s ts)
 
 module _ (π : Presumption) (𝓛 : Laws π) where
-  plain_tail : (F A : Bool) (r s c : ℕ) → All Plain (force_if π F (ack_if π A r s c))
+  plain_tail : (F A : Bool) (r s c : ℕ) → AllByRecursion Plain (force_if π F (ack_if π A r s c))
   plain_tail true true r s c = (tt, (tt, tt))
   plain_tail true false r s c = (tt, tt)
   plain_tail false true r s c = (tt, tt)
   plain_tail false false r s c = tt
 
-  plain_log : (l : Logging) (r a : ℕ) → All Plain (logged l (line kA r a))
+  plain_log : (l : Logging) (r a : ℕ) → AllByRecursion Plain (logged l (line kA r a))
   plain_log not_at_all r a = tt
   plain_log unforced r a = (λ _. refl, tt)
   plain_log forced r a = (λ _. refl, (tt, tt))
 
-  plain_end : (r all d : ℕ) → All Plain (end_acts π r all d)
-  plain_end r all d = cond_both (not (eqb (π.ackers abort all) 0) && eqb (π.ackers abort d) 0) (write (line kE r 0) ∷ []) [] (All Plain) (λ _. (λ _. refl, tt)) (λ _. tt)
+  plain_end : (r all d : ℕ) → AllByRecursion Plain (end_acts π r all d)
+  plain_end r all d = cond_both (not (eqb (π.ackers abort all) 0) && eqb (π.ackers abort d) 0) (write (line kE r 0) ∷ []) [] (AllByRecursion Plain) (λ _. (λ _. refl, tt)) (λ _. tt)
 
   marks_rule : (u : Rule) (r s t : ℕ) (st : Run) → Marks s (acts_of π u r s t) st
   marks_rule (vote c) r s t st = plain_marks s (prepare_acts π r s t c) st (λ _. refl, (tt, (tt, tt)))
@@ -204,7 +204,7 @@ module _ (π : Presumption) (𝓛 : Laws π) where
   marks_rule (less o w) r s t st = tt
   marks_rule finish r s t st = plain_marks s (write (line kE r 0) ∷ []) st (λ _. refl, tt)
   marks_rule (answer o) r s t st = (tt, tt)
-  marks_rule (start all) r s t st = plain_marks s (close_acts π r s all) st (cond_both (π.opens all) (write (line kI r all) ∷ (force ∷ send_each PREPARE r s (members π.size all))) (send_each PREPARE r s (members π.size all)) (All Plain) (λ _. (λ _. refl, (tt, plain_sends PREPARE r s (members π.size all)))) (λ _. plain_sends PREPARE r s (members π.size all)))
+  marks_rule (start all) r s t st = plain_marks s (close_acts π r s all) st (cond_both (π.opens all) (write (line kI r all) ∷ (force ∷ send_each PREPARE r s (members π.size all))) (send_each PREPARE r s (members π.size all)) (AllByRecursion Plain) (λ _. (λ _. refl, (tt, plain_sends PREPARE r s (members π.size all)))) (λ _. plain_sends PREPARE r s (members π.size all)))
   marks_rule (deny c) r s t st = plain_marks s (reject_acts π r s c) st (tt, (λ _. refl, plain_tail (π.forces abort s) false r s s))
   marks_rule (press o w) r s t st = plain_marks s (send_each (outcome_mail o) r s (members π.size w)) st (plain_sends (outcome_mail o) r s (members π.size w))
   marks_rule (asks c) r s t st = (tt, tt)

@@ -1,6 +1,6 @@
 -- A whole step of a rule finds room in a journal of 160 records.
 use Rattle.std.proofs.Common.{◌≡◌, ℕ, zero, suc, ◌+◌, ◌<◌, ◌≤◌, Bool, true, false, not, ◌&&◌, eqb, ltb, List, [], ◌∷◌, length, take, refl, arith, length-append}
-use Rattle.std.specs.List.{AllByRecursion as All}
+use Rattle.std.specs.List.{AllByRecursion}
 use Rattle.std.proofs.ByRecursion.{All-weaker, All-push, All-append}
 use Rattle.std.proofs.lemmas.Bool.Decides.{nat_tests}
 use Rattle.std.proofs.lemmas.Bool.{cond_both}
@@ -44,9 +44,9 @@ RevA n (installed r) = Unit {0}
 RevA n (dropped r) = Unit {0}
 
 abbrev Revs : ℕ → Station → Type 0
-Revs n y = All (λ (x : Record). x.revision < n) y.stable × All (λ (x : Record). x.revision < n) y.loose
+Revs n y = AllByRecursion (λ (x : Record). x.revision < n) y.stable × AllByRecursion (λ (x : Record). x.revision < n) y.loose
 
-revs_locals : (n : ℕ) (l : List Act) (y : Station) → All (RevA n) l → Revs n y → Revs n (locals l y)
+revs_locals : (n : ℕ) (l : List Act) (y : Station) → AllByRecursion (RevA n) l → Revs n y → Revs n (locals l y)
 revs_locals n [] y a h = h
 revs_locals n (write x ∷ l) y a h = revs_locals n l (written_station x y) a.1 (h.0, All-push _ y.loose x h.1 a.0)
 revs_locals n (force ∷ l) y a h = revs_locals n l (forced_station y) a.1 (All-append _ y.stable y.loose h.0 h.1, tt)
@@ -54,7 +54,7 @@ revs_locals n (send m ∷ l) y a h = revs_locals n l y a.1 h
 revs_locals n (installed r ∷ l) y a h = revs_locals n l y a.1 h
 revs_locals n (dropped r ∷ l) y a h = revs_locals n l y a.1 h
 
-revs_sends : (n : ℕ) (k : MessageKind) (r s : ℕ) (ts : List ℕ) → All (RevA n) (send_each k r s ts)
+revs_sends : (n : ℕ) (k : MessageKind) (r s : ℕ) (ts : List ℕ) → AllByRecursion (RevA n) (send_each k r s ts)
 revs_sends n k r s [] = tt
 revs_sends n k r s (t ∷ ts) = (tt, revs_sends n k r s ts)
 
@@ -69,21 +69,21 @@ revs_turn n (to_coordinator r e) y h = h
 revs_turn n (to_subordinate r e) y h = h
 
 module _ (π : Presumption) (𝓛 : Laws π) where
-  revs_tail : (n : ℕ) (F A : Bool) (r s c : ℕ) → All (RevA n) (force_if π F (ack_if π A r s c))
+  revs_tail : (n : ℕ) (F A : Bool) (r s c : ℕ) → AllByRecursion (RevA n) (force_if π F (ack_if π A r s c))
   revs_tail n true true r s c = (tt, (tt, tt))
   revs_tail n true false r s c = (tt, tt)
   revs_tail n false true r s c = (tt, tt)
   revs_tail n false false r s c = tt
 
-  revs_log : (n : ℕ) (l : Logging) (r a : ℕ) → r < n → All (RevA n) (logged l (line kA r a))
+  revs_log : (n : ℕ) (l : Logging) (r a : ℕ) → r < n → AllByRecursion (RevA n) (logged l (line kA r a))
   revs_log n not_at_all r a h = tt
   revs_log n unforced r a h = (h, tt)
   revs_log n forced r a h = (h, (tt, tt))
 
-  revs_end : (n r all d : ℕ) → r < n → All (RevA n) (end_acts π r all d)
-  revs_end n r all d h = cond_both (not (eqb (π.ackers abort all) 0) && eqb (π.ackers abort d) 0) (write (line kE r 0) ∷ []) [] (All (RevA n)) (λ _. (h, tt)) (λ _. tt)
+  revs_end : (n r all d : ℕ) → r < n → AllByRecursion (RevA n) (end_acts π r all d)
+  revs_end n r all d h = cond_both (not (eqb (π.ackers abort all) 0) && eqb (π.ackers abort d) 0) (write (line kE r 0) ∷ []) [] (AllByRecursion (RevA n)) (λ _. (h, tt)) (λ _. tt)
 
-  revs_rule : (n : ℕ) (u : Rule) (r s t : ℕ) → r < n → All (RevA n) (acts_of π u r s t)
+  revs_rule : (n : ℕ) (u : Rule) (r s t : ℕ) → r < n → AllByRecursion (RevA n) (acts_of π u r s t)
   revs_rule n (vote c) r s t h = (h, (tt, (tt, tt)))
   revs_rule n again r s t h = (tt, tt)
   revs_rule n refuse r s t h = (tt, tt)
@@ -96,7 +96,7 @@ module _ (π : Presumption) (𝓛 : Laws π) where
   revs_rule n (less o w) r s t h = tt
   revs_rule n finish r s t h = (h, tt)
   revs_rule n (answer o) r s t h = (tt, tt)
-  revs_rule n (start all) r s t h = cond_both (π.opens all) (write (line kI r all) ∷ (force ∷ send_each PREPARE r s (members π.size all))) (send_each PREPARE r s (members π.size all)) (All (RevA n)) (λ _. (h, (tt, revs_sends n PREPARE r s (members π.size all)))) (λ _. revs_sends n PREPARE r s (members π.size all))
+  revs_rule n (start all) r s t h = cond_both (π.opens all) (write (line kI r all) ∷ (force ∷ send_each PREPARE r s (members π.size all))) (send_each PREPARE r s (members π.size all)) (AllByRecursion (RevA n)) (λ _. (h, (tt, revs_sends n PREPARE r s (members π.size all)))) (λ _. revs_sends n PREPARE r s (members π.size all))
   revs_rule n (deny c) r s t h = (tt, (h, revs_tail n (π.forces abort s) false r s s))
   revs_rule n (press o w) r s t h = revs_sends n (outcome_mail o) r s (members π.size w)
   revs_rule n (asks c) r s t h = (tt, tt)

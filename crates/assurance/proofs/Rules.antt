@@ -1,6 +1,6 @@
 -- Every step of a station is one of fifteen rules.
 use Rattle.std.proofs.Common.{◌≡◌, ℕ, zero, suc, ◌+◌, ◌<◌, ◌≤◌, Bool, true, false, cond, not, ◌&&◌, eqb, ltb, ◌⊎◌, List, [], ◌∷◌, ◌++◌, length, sym, refl, ap, subst, inl, inr, arith, length-append}
-use Rattle.std.specs.List.{AllByRecursion as All, range_with_len}
+use Rattle.std.specs.List.{AllByRecursion, range_with_len}
 use Rattle.std.proofs.lemmas.Bool.Decides.{nat_tests}
 use Rattle.std.proofs.lemmas.Bool.{cond_both, cond-false}
 use Rattle.assurance.proofs.Ideal.{in_set, with_station, without_station, members, kI, kA, kE, Record, Outcome, commit, abort, CoordinatorEntry, none, Open, Collecting, Announcing, SubordinateEntry, idle, Active, Prepared, Station, MessageKind, PREPARE, YES, NO, COMMIT, ABORT, ACK, INQUIRY, Run, Presumption, Logging, not_at_all, unforced, forced, at_station, written_station, forced_station, set_coordinator, Act, write, force, send, installed, dropped, acts_done, Turn, stay, to_coordinator, to_subordinate, turn, step, line, letter, send_each, outcome_mail, await, logged, close_acts, commit_acts, end_acts, abort_acts, force_if, ack_if, enforce_acts, reject_acts, prepare_acts, upon_prepare, upon_yes, decide_abort, upon_no, upon_outcome, upon_ack, upon_inquiry, upon_close, upon_give_up, upon_reject, upon_chase, upon_inquire, handed, nudge}
@@ -209,11 +209,11 @@ pub few_members : (n m : ℕ) → length (members n m) ≤ n
 unfolding members
 few_members n m = omega (arith, length-filter (in_set m) (range_with_len 0 n), count_by-le-length (in_set m) (range_with_len 0 n), length-range_with_len 0 n)
 
-pub counting_below : (a n b : ℕ) → a + n ≤ b → All (λ u. u < b) (range_with_len a n)
+pub counting_below : (a n b : ℕ) → a + n ≤ b → AllByRecursion (λ u. u < b) (range_with_len a n)
 counting_below a zero b h = tt
 counting_below a (suc n) b h = (omega arith, counting_below (a + 1) n b (omega arith))
 
-pub members_below : (n m : ℕ) → All (λ u. u < n) (members n m)
+pub members_below : (n m : ℕ) → AllByRecursion (λ u. u < n) (members n m)
 unfolding members
 members_below n m = all_kept_by (in_set m) (λ u. u < n) (range_with_len 0 n) (counting_below 0 n n (omega arith))
 

@@ -1,6 +1,6 @@
 -- Each act alone keeps the invariant between acts, where its reason holds.
 use Rattle.std.proofs.Common.{◌≡◌, ℕ, ◌+◌, ◌<◌, true, false, eqb, ltb, ◌⊎◌, List, [], ◌∷◌, ◌++◌, length, take, sym, refl, ◌∙◌, subst, inl, inr, arith}
-use Rattle.std.specs.List.{AllByRecursion as All}
+use Rattle.std.specs.List.{AllByRecursion}
 use Rattle.std.proofs.ByRecursion.{All-push, All-append, All-take}
 use Rattle.std.proofs.lemmas.Bool.Decides.{nat_tests}
 use Rattle.std.proofs.lemmas.Bool.{or_from, or_left, cond_both, cond-false, cases_Bool, eqb-true}
@@ -80,14 +80,14 @@ module _ (π : Presumption) where
     pub grow_in : Grow (world st) (world (at_station s g st))
     grow_in = record { more = omega arith; same = λ r l. refl; keep = λ t. upd_keep (λ u y. Keeps st.count (st.station u) y) st.station s (g (st.station s)) (λ _. k) t (keeps_refl st.count (st.station t)) }
 
-    pub safe_in : SafeSt st → (let w = world (at_station s g st) in (All (RecLegal π w s) (g (st.station s)).stable × All (RecLegal π w s) (g (st.station s)).loose) → ((r : ℕ) → CoLegal π w s r ((g (st.station s)).coordinators r)) → ((r : ℕ) → SubLegal π w s r ((g (st.station s)).subordinates r)) → SafeSt (at_station s g st))
+    pub safe_in : SafeSt st → (let w = world (at_station s g st) in (AllByRecursion (RecLegal π w s) (g (st.station s)).stable × AllByRecursion (RecLegal π w s) (g (st.station s)).loose) → ((r : ℕ) → CoLegal π w s r ((g (st.station s)).coordinators r)) → ((r : ℕ) → SubLegal π w s r ((g (st.station s)).subordinates r)) → SafeSt (at_station s g st))
     safe_in h rs cs ss =
         safe_local π (world st) (world (at_station s g st)) grow_in st.post st.installed_at st.dropped_at s h (upd_cases st.station s (g (st.station s)))
-        (subst (λ (x : Station). All (RecLegal π (world (at_station s g st)) s) x.stable × All (RecLegal π (world (at_station s g st)) s) x.loose) (sym (here_in s g st)) rs)
+        (subst (λ (x : Station). AllByRecursion (RecLegal π (world (at_station s g st)) s) x.stable × AllByRecursion (RecLegal π (world (at_station s g st)) s) x.loose) (sym (here_in s g st)) rs)
         (λ r. subst (λ (x : Station). CoLegal π (world (at_station s g st)) s r (x.coordinators r)) (sym (here_in s g st)) (cs r))
         (λ r. subst (λ (x : Station). SubLegal π (world (at_station s g st)) s r (x.subordinates r)) (sym (here_in s g st)) (ss r))
 
-    grown_recs : (l : List Record) → All (RecLegal π (world st) s) l → All (RecLegal π (world (at_station s g st)) s) l
+    grown_recs : (l : List Record) → AllByRecursion (RecLegal π (world st) s) l → AllByRecursion (RecLegal π (world (at_station s g st)) s) l
     grown_recs l h = recs_grow π (world st) (world (at_station s g st)) grow_in s l h
 
     grown_co : (r : ℕ) (e : CoordinatorEntry) → CoLegal π (world st) s r e → CoLegal π (world (at_station s g st)) s r e
@@ -143,7 +143,7 @@ module _ (π : Presumption) where
   pub safe_send : (st : Run) (m : Message) → SafeSt st → Legal π (world st) m → SafeSt (with_message m st)
   safe_send st m h l =
       record {
-        msgs = cond_both (ltb (length st.post) 64) (st.post ++ (m ∷ [])) st.post (λ p. All (Legal π (world st)) p) (λ _. All-push _ st.post m h.msgs l) (λ _. h.msgs);
+        msgs = cond_both (ltb (length st.post) 64) (st.post ++ (m ∷ [])) st.post (λ p. AllByRecursion (Legal π (world st)) p) (λ _. All-push _ st.post m h.msgs l) (λ _. h.msgs);
         installs = h.installs;
         drops = h.drops;
         recs = h.recs;

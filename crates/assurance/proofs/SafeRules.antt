@@ -1,6 +1,6 @@
 -- What holds of one station between steps, and the steps that messages, giving up and rejecting lead to.
 use Rattle.std.proofs.Common.{◌≡◌, ℕ, zero, suc, ◌+◌, ◌<◌, Bool, true, false, not, ◌&&◌, eqb, ◌⊎◌, List, [], ◌∷◌, ◌++◌, sym, refl, ap, ◌∙◌, subst, inl, inr, arith}
-use Rattle.std.specs.List.{AllByRecursion as All}
+use Rattle.std.specs.List.{AllByRecursion}
 use Rattle.std.proofs.ByRecursion.{All-weaker, All-append}
 use Rattle.std.proofs.lemmas.Bool.{or_cases, or_left, or_right, cond_both, cond-true, cond-false, cases_Bool, true≢false, eqb-true, eq-eqb, ne_eqb, and_parts}
 use Rattle.assurance.proofs.Ideal.{in_set, without_station, members, Kind, kI, kC, kA, kE, kp, kc, ka, code, Record, is, has, argument_of, Outcome, commit, abort, CoordinatorEntry, none, Open, Collecting, Announcing, SubordinateEntry, idle, Active, Prepared, Station, MessageKind, PREPARE, YES, NO, COMMIT, ABORT, ACK, INQUIRY, Plan, Run, Presumption, Logging, not_at_all, unforced, forced, at_station, written_station, forced_station, set_coordinator, set_subordinate, marked_installed, marked_dropped, Act, write, force, send, installed, dropped, act_done, stay, to_coordinator, to_subordinate, step, line, letter, send_each, outcome_mail, outcome_kind, await, logged, end_acts, abort_acts, force_if, ack_if, enforce_acts, reject_acts, prepare_acts, upon_prepare, decide_abort, upon_no, upon_outcome, upon_ack, upon_inquiry, upon_give_up, upon_reject}
@@ -53,7 +53,7 @@ is_that k r x h = let b = and_parts _ _ h in (sym (decode_code x.kind) ∙ (ap d
 
 module _ (π : Presumption) (w : World) (s : ℕ) where
   -- a record that is there is legal
-  pub has_legal : (k : Kind) (r : ℕ) (l : List Record) → All (RecLegal π w s) l → has k r l ≡ true → (r < w.count) × RecOf π w s k r (argument_of k r l)
+  pub has_legal : (k : Kind) (r : ℕ) (l : List Record) → AllByRecursion (RecLegal π w s) l → has k r l ≡ true → (r < w.count) × RecOf π w s k r (argument_of k r l)
   has_legal k r [] h e = absurd (true≢false (sym e))
   has_legal k r (x ∷ l) h e =
       elim (cases_Bool (is k r x)) [
@@ -61,7 +61,7 @@ module _ (π : Presumption) (w : World) (s : ℕ) where
         | inr i ↦ (rw (cond-false (is k r x) x.argument (argument_of k r l) i) (has_legal k r l h.1 (elim (or_cases (is k r x) (has k r l) e) [ inl j ↦ absurd (true≢false (sym j ∙ i)) | inr j ↦ j ])))
       ]
 
-  pub there_legal : (k : Kind) (r : ℕ) → All (RecLegal π w s) (w.station s).stable × All (RecLegal π w s) (w.station s).loose → Has k r (w.station s) → (a : ℕ) × (r < w.count) × RecOf π w s k r a
+  pub there_legal : (k : Kind) (r : ℕ) → AllByRecursion (RecLegal π w s) (w.station s).stable × AllByRecursion (RecLegal π w s) (w.station s).loose → Has k r (w.station s) → (a : ℕ) × (r < w.count) × RecOf π w s k r a
   there_legal k r h (inl e) = let q = has_legal k r (w.station s).stable h.0 e in (argument_of k r (w.station s).stable, q.0, q.1)
   there_legal k r h (inr e) = let q = has_legal k r (w.station s).loose h.1 e in (argument_of k r (w.station s).loose, q.0, q.1)
 
@@ -105,11 +105,11 @@ module _ (π : Presumption) where
   ready_ok s (installed r) st h = h
   ready_ok s (dropped r) st h = h
 
-  pub ready_oks : (s : ℕ) (l : List Act) (st : Run) → All (Ready (world st) s) l → Oks π s l st
+  pub ready_oks : (s : ℕ) (l : List Act) (st : Run) → AllByRecursion (Ready (world st) s) l → Oks π s l st
   ready_oks s [] st h = tt
   ready_oks s (a ∷ l) st h = (ready_ok s a st h.0, ready_oks s l (act_done s a st) (All-weaker _ _ (λ b. ready_grows (world st) (world (act_done s a st)) (ready_act s a st h.0) s b) l h.1))
 
-  pub ready_sends : (w : World) (k : MessageKind) (r s : ℕ) → ((t : ℕ) → Legal π w (letter k r s t)) → (ts : List ℕ) → All (Ready w s) (send_each k r s ts)
+  pub ready_sends : (w : World) (k : MessageKind) (r s : ℕ) → ((t : ℕ) → Legal π w (letter k r s t)) → (ts : List ℕ) → AllByRecursion (Ready w s) (send_each k r s ts)
   ready_sends w k r s h [] = tt
   ready_sends w k r s h (t ∷ ts) = (h t, ready_sends w k r s h ts)
 
@@ -239,16 +239,16 @@ module _ (π : Presumption) (𝓛 : Laws π) where
     unfolding st0 aw
     safe0 = safe_co π st s h r aw (λ _. past_aw) shut_aw (cond_both (eqb (π.ackers abort d) 0) none (Announcing abort (π.ackers abort d)) (CoLegal π (world st0) s r) (λ _. tt) (λ z. (known, own, doomed, heard0, (λ e. true≢false (sym (eq-eqb _ _ e) ∙ z), λ u m. (let b = 𝓛.backer abort d u m in (rw (← whole) (part u b.0), b.1))))))
 
-    a_ready : (l : Logging) → All (Ready π (world st0) s) (logged l (line kA r all))
+    a_ready : (l : Logging) → AllByRecursion (Ready π (world st0) s) (logged l (line kA r all))
     unfolding st0
     a_ready not_at_all = tt
     a_ready unforced = ((λ _. refl, λ _. refl, (known, (own, whole))), tt)
     a_ready forced = ((λ _. refl, λ _. refl, (known, (own, whole))), (tt, tt))
 
-    e_ready : All (Ready π (world st0) s) (end_acts π r all d)
+    e_ready : AllByRecursion (Ready π (world st0) s) (end_acts π r all d)
     unfolding st0
     e_ready =
-        cond_both (not (eqb (π.ackers abort all) 0) && eqb (π.ackers abort d) 0) (write (line kE r 0) ∷ []) [] (All (Ready π (world st0) s))
+        cond_both (not (eqb (π.ackers abort all) 0) && eqb (π.ackers abort d) 0) (write (line kE r 0) ∷ []) [] (AllByRecursion (Ready π (world st0) s))
         (λ b. let z : π.ackers abort d ≡ 0 = eqb-true _ _ (and_parts _ _ b).1 in
         ((λ _. refl, λ _. refl, (known, (own, inr (doomed, λ t m a. elim (heard0 t m a) [ inl i ↦ absurd (true≢false (sym (rw z at i) ∙ mem_zero t)) | inr i ↦ i ])))), tt))
         (λ _. tt)

@@ -1,6 +1,6 @@
 -- Settling brings each revision to its end, one after the other.
 use Rattle.std.proofs.Common.{◌≡◌, ℕ, ◌+◌, ◌<◌, ◌≤◌, true, not, ◌&&◌, eqb, ◌⊎◌, List, [], ◌∷◌, ◌++◌, length, sym, refl, ap, ◌∙◌, subst, inl, inr, arith}
-use Rattle.std.specs.List.{AllByRecursion as All, range_with_len}
+use Rattle.std.specs.List.{AllByRecursion, range_with_len}
 use Rattle.std.proofs.lemmas.Bool.{cond_both, cond-true, cases_eq, true≢false, cases_lt}
 use Rattle.assurance.proofs.Ideal.{in_set, members, kC, kA, kE, kp, ka, Record, Outcome, commit, abort, CoordinatorEntry, none, Open, Collecting, Announcing, SubordinateEntry, idle, Active, Prepared, MessageKind, ABORT, ACK, INQUIRY, Message, Plan, Run, Presumption, Logging, not_at_all, unforced, forced, with_post, Act, write, acts_done, Turn, stay, to_coordinator, turn, line, letter, send_each, outcome_mail, await, logged, end_acts, abort_acts, upon_outcome, upon_ack, upon_inquiry, upon_inquire, handed, hand_first, emptied, nudge, urged, asked, inquire_all, revise, revise_all, settled}
 use Rattle.assurance.proofs.Lasting.{Got, Shut, world, head, Named, Comm, CoLegal, SubLegal}
@@ -15,7 +15,7 @@ use Rattle.assurance.proofs.Ranges.{Marked}
 use Rattle.assurance.proofs.UnderWay.{Elem, elem_counting, elem_members, letters, letters_append, letters_sends, room_post, post_acts, post_turn, Pend, CoPend, Mild, Tri, Mid, mid_rested, mild_sends, in_sends, append-nil, told, out_post, own_sub}
 
 module _ (π : Presumption) (𝓛 : Laws π) where
-  pub tri_of : (r c : ℕ) (v : Run) (p : List Message) (e : CoordinatorEntry) → v.post ≡ p → (v.station c).coordinators r ≡ e → All (Mild r c) p → length p ≤ π.size → CoPend r c e p → Tri π 𝓛 r c v
+  pub tri_of : (r c : ℕ) (v : Run) (p : List Message) (e : CoordinatorEntry) → v.post ≡ p → (v.station c).coordinators r ≡ e → AllByRecursion (Mild r c) p → length p ≤ π.size → CoPend r c e p → Tri π 𝓛 r c v
   tri_of r c v p e a b m l h = (rw a m, rw a l, rw a (subst (λ (x : CoordinatorEntry). CoPend r c x p) (sym b) h))
 
   letters_log : (l : Logging) (x : Record) → letters (logged l x) ≡ []

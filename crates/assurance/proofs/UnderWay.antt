@@ -1,6 +1,6 @@
 -- Whoever is awaited has the outcome, or its own ACK, under way.
 use Rattle.std.proofs.Common.{◌≡◌, ℕ, zero, suc, ◌+◌, ◌<◌, ◌≤◌, Bool, true, false, eqb, ltb, ◌⊎◌, List, [], ◌∷◌, ◌++◌, length, filter, sym, refl, ap, ◌∙◌, subst, inl, inr, arith, length-append}
-use Rattle.std.specs.List.{AllByRecursion as All, range_with_len}
+use Rattle.std.specs.List.{AllByRecursion, range_with_len}
 use Rattle.std.proofs.ByRecursion.{All-push}
 use Rattle.std.proofs.lemmas.Bool.Decides.{nat_tests}
 use Rattle.std.proofs.lemmas.Bool.{cond_both, cond-true, cases_eq, true≢false}
@@ -129,7 +129,7 @@ mild_outcome : (o : Outcome) (r c u : ℕ) → MildOf r c (outcome_mail o) r c u
 mild_outcome commit r c u = (refl, refl)
 mild_outcome abort r c u = (refl, refl)
 
-pub mild_sends : (o : Outcome) (r c : ℕ) (ts : List ℕ) → All (Mild r c) (letters (send_each (outcome_mail o) r c ts))
+pub mild_sends : (o : Outcome) (r c : ℕ) (ts : List ℕ) → AllByRecursion (Mild r c) (letters (send_each (outcome_mail o) r c ts))
 mild_sends o r c [] = tt
 mild_sends o r c (t ∷ ts) = (mild_outcome o r c t, mild_sends o r c ts)
 
@@ -205,9 +205,9 @@ module _ (π : Presumption) (𝓛 : Laws π) where
 
   module _ (r c : ℕ) where
     abbrev pub Tri : Run → Type 0
-    Tri v = All (Mild r c) v.post × (length v.post ≤ π.size) × CoPend r c ((v.station c).coordinators r) v.post
+    Tri v = AllByRecursion (Mild r c) v.post × (length v.post ≤ π.size) × CoPend r c ((v.station c).coordinators r) v.post
 
-    module _ (ms : List Message) (st : Run) (h : SafeSt π st) (ty : (s : ℕ) → TidyS π st.plan s (st.station s)) (own : (st.plan r).coordinator ≡ c) (mild : All (Mild r c) ms) (few : length ms < π.size) where
+    module _ (ms : List Message) (st : Run) (h : SafeSt π st) (ty : (s : ℕ) → TidyS π st.plan s (st.station s)) (own : (st.plan r).coordinator ≡ c) (mild : AllByRecursion (Mild r c) ms) (few : length ms < π.size) where
       core_ack : (t : ℕ) (e : CoordinatorEntry) → (st.station c).coordinators r ≡ e → CoPend r c e (letter ACK r t c ∷ ms) → Tri (upon_ack π r c t e 255 0 (with_post ms st))
       core_ack t none e p = (mild, omega arith, subst (λ (x : CoordinatorEntry). CoPend r c x ms) (sym e) tt)
       core_ack t (Open a) e p = (mild, omega arith, subst (λ (x : CoordinatorEntry). CoPend r c x ms) (sym e) tt)
@@ -238,7 +238,7 @@ module _ (π : Presumption) (𝓛 : Laws π) where
           a : Answered o r s c ms ((st.station s).subordinates r) v.post
           a = out_post o r s c ((st.station s).subordinates r) (with_post ms st) (omega (arith, 𝓛.small)) (subst (λ (x : ℕ). OwnC ((st.station s).subordinates r) x) own (own_sub st h s r ((st.station s).subordinates r) refl))
 
-          mild_after : All (Mild r c) v.post
+          mild_after : AllByRecursion (Mild r c) v.post
           mild_after = elim a [ inl e ↦ rw e (All-push _ ms (letter ACK r s c) mild (refl, refl)) | inr e ↦ rw e.1 mild ]
 
           few_after : length v.post ≤ π.size
@@ -312,7 +312,7 @@ module _ (π : Presumption) (𝓛 : Laws π) where
 
     pub mid_first : (st0 : Run) (m : Message) (ms : List Message) (st : Run) → m ∷ ms ≡ st.post → Mid st0 st → Mid st0 (hand_first π m (with_post ms st))
     mid_first st0 m ms st e h =
-        let a : Tri (with_post (m ∷ ms) st) = subst (λ (p : List Message). All (Mild r c) p × (length p ≤ π.size) × CoPend r c ((st.station c).coordinators r) p) (sym e) h.tri in
+        let a : Tri (with_post (m ∷ ms) st) = subst (λ (p : List Message). AllByRecursion (Mild r c) p × (length p ≤ π.size) × CoPend r c ((st.station c).coordinators r) p) (sym e) h.tri in
         let side : Aside r st (handed π m.mail m.revision m.to m.from 255 0 (with_post ms st)) = aside_post ms st _ (subst (λ (x : ℕ). Aside x (with_post ms st) (handed π m.mail m.revision m.to m.from 255 0 (with_post ms st))) (rev_of m.mail m.revision m.from m.to a.0.0) (aside_did π 𝓛 (with_post ms st) m.revision m.to m.from (λ u. For π u m.mail) _ (did_handed π m.mail m.revision m.to m.from 255 0 (with_post ms st)))) in
         record {
           inv = inv_first π 𝓛 m ms st e h.inv;

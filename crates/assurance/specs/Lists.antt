@@ -2,7 +2,7 @@
 use Rattle.std.specs.Prelude.{List, [], ◌∷◌}
 use Rattle.presumption.specs.Answers.{Answers}
 use Rattle.run.specs.Answers.{Answer}
-use Rattle.run.specs.Calls.{Reply, open_call, close_call, give_up_call, chase_call, reject_call, inquire_call, deliver_call, lose_call, cut_call, restart_call, awaited_call}
+use Rattle.run.specs.Calls.{Reply, open_call, close_call, give_up_call, chase_call, reject_call, inquire_call, deliver_call, lose_call, cut_call, restart_call, unheard_call}
 use Rattle.run.specs.Settling.{settle_call}
 use Rattle.run.specs.State.{State}
 use Rattle.assurance.specs.declared.calls.Call.{Call}
@@ -21,7 +21,7 @@ called π (Lose i) st = lose_call i st
 called π (Cut s k) st = cut_call s k st
 called π (Restart s) st = restart_call π s st
 called π Settle st = settle_call π st
-called π (Awaited r) st = awaited_call r st
+called π (Awaited r) st = unheard_call r st
 
 -- The state after a list of calls, one after the other.
 abbrev pub after_calls : Answers → List Call → State → State

@@ -1,6 +1,6 @@
 -- Marked runs: short lists of calls, each with what the definitions of the calls must give.
 use Rattle.std.specs.Prelude.{◌≡◌, Bool, true, false, List, [], ◌∷◌, map}
-use Rattle.std.specs.List.{AllByRecursion as All}
+use Rattle.std.specs.List.{AllByRecursion}
 use Rattle.actor.specs.Log.{row_at}
 use Rattle.journal.specs.Tables.{table_of}
 use Rattle.presumption.specs.Answers.{Answers, abort_presumed, commit_presumed}
@@ -177,4 +177,4 @@ AsMarked x = seen x.presumption x.calls ≡ x.expected
 
 -- Every marked run is.
 abbrev pub AllAsMarked : Type 0
-AllAsMarked = All AsMarked marked_runs
+AllAsMarked = AllByRecursion AsMarked marked_runs

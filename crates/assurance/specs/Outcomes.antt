@@ -19,7 +19,7 @@ use Rattle.station.specs.Sets.{holds, members}
 use Rattle.station.specs.declared.coordinator.CoordinatorEntry.TheVariants as coordinator
 use Rattle.station.specs.declared.sets.StationSet.{StationSet}
 use Rattle.station.specs.declared.subordinate.SubordinateEntry.TheVariants as subordinate
-use Rattle.std.specs.List.{AllByRecursion as All}
+use Rattle.std.specs.List.{AllByRecursion}
 use Rattle.assurance.specs.Writes.{Unrefused, Plain}
 
 -- Revision r is of station s.
@@ -101,7 +101,7 @@ pub record Sound (π : Answers) (st : State) : Type 0 where
   -- No write of a step is refused for want of room.
   pub written : (c : Call) → Unrefused π st c
   -- Settling is a list of the other calls.
-  pub steps : (more : List Call) × All Plain more × ((called π Settle st).state ≡ after_calls π more st)
+  pub steps : (more : List Call) × AllByRecursion Plain more × ((called π Settle st).state ≡ after_calls π more st)
   pub settles : AllPowered st → Settles π st
 
 -- One revision opened, closed and settled takes at most four deliveries for each station of it.

@@ -205,5 +205,5 @@ abbrev pub restart_call : Answers → ℕ → State → Reply
 restart_call π s st = asked (fit? st ∷ there? s st ∷ dark? s st ∷ []) st (reply (answered 0) (restarted π s st))
 
 -- Awaited: how many stations the coordinator of revision r has not heard from.
-abbrev pub awaited_call : ℕ → State → Reply
-awaited_call r st = asked (opened_questions r st) st (reply (answered (count_ones (unheard (coordinator_entry r st)).bits)) st)
+abbrev pub unheard_call : ℕ → State → Reply
+unheard_call r st = asked (opened_questions r st) st (reply (answered (count_ones (unheard (coordinator_entry r st)).bits)) st)

@@ -3,3 +3,4 @@ pub mod State
 pub mod Calls
 pub mod Runs
 pub mod Settling
+pub mod Lists

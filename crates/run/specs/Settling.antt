@@ -3,14 +3,16 @@ use Rattle.std.specs.Prelude.{◌≡◌, ℕ, zero, suc, ◌+◌, ◌*◌, Bool,
 use Rattle.journal.specs.Limits.{most_stations}
 use Rattle.presumption.specs.Answers.{Answers}
 use Rattle.run.specs.Answers.{answered}
-use Rattle.run.specs.Calls.{Reply, reply, asked, fit?, coordinator_entry, deliver_call, give_up_call, chase_call, inquire_call}
+use Rattle.run.specs.Calls.{Reply, reply, asked, fit?, opened?, coordinator_entry, deliver_call, give_up_call, chase_call, inquire_call}
 use Rattle.run.specs.State.{State}
 use Rattle.stations.specs.Stations.{all_power, subordinate_at}
+use Rattle.station.specs.Coordinator.{unheard}
 use Rattle.station.specs.declared.coordinator.CoordinatorEntry.{CoordinatorEntry}
 use Rattle.station.specs.declared.coordinator.CoordinatorEntry.TheVariants as coordinator
 use Rattle.station.specs.declared.messages.Message.{Message}
 use Rattle.station.specs.declared.messages.MessageKind.{MessageKind}
 use Rattle.station.specs.declared.messages.MessageKind.TheVariants.{Prepare, Yes, No, Commit, Abort, Ack, Inquiry}
+use Rattle.station.specs.declared.sets.StationSet.{StationSet}
 use Rattle.station.specs.declared.subordinate.SubordinateEntry.{SubordinateEntry}
 use Rattle.station.specs.declared.subordinate.SubordinateEntry.TheVariants as subordinate
 use Rattle.std.specs.List.{range_with_len}
@@ -107,3 +109,11 @@ every_power? st = (4, all_power st.stations (range_with_len 0 (length st.station
 -- Settle, which answers the number of deliveries.
 abbrev pub settle_call : Answers → State → Reply
 settle_call π st = asked (fit? st ∷ every_power? st ∷ []) st (reply (answered (settled π st).deliveries) (settled π st).state)
+
+-- Whom a coordinator awaits: those that have not voted yet, or have not acknowledged yet.
+abbrev pub awaited : CoordinatorEntry → StationSet
+awaited e = unheard e
+
+-- The stations that revision r awaits, as a set's bits.
+abbrev pub awaited_call : ℕ → State → Reply
+awaited_call r st = asked (fit? st ∷ opened? r st ∷ []) st (reply (answered (awaited (coordinator_entry r st)).bits) st)

@@ -2,7 +2,7 @@
 ghost use Rattle.std.specs.Prelude.{◌≡◌, ◌+◌, ◌^◌, ◌<◌, ◌≤◌, true, [], IfOk, OnOk};
 ghost use Rattle.journal.specs.Limits.{most_stations};
 ghost use Rattle.run.specs.Answers.{answer_of, awaited_answer};
-ghost use Rattle.run.specs.Calls.{Reply, reply, asked, passed, opened_questions, coordinator_entry, awaited_call};
+ghost use Rattle.run.specs.Calls.{Reply, reply, asked, passed, opened_questions, coordinator_entry, unheard_call};
 ghost use Rattle.run.specs.Runs.{seen};
 ghost use Rattle.run.specs.Settling.{Drained, progress, load, drained, urged, inquired, finished, settled, settle_call};
 ghost use Rattle.station.specs.Coordinator.{unheard};
@@ -38,7 +38,7 @@ impl<J: Journal, P: Presumption> Run<J, P> {
 
     /// A station that the coordinator of the revision has not heard from, and how many there are.
     pub fn awaited(&self, revision: u16) -> Result<Awaited, Refusal>
-        ensures reply { reply (awaited_answer result) (seen J.Journal.meaning self.now) ≡ awaited_call revision (seen J.Journal.meaning self.now) }
+        ensures reply { reply (awaited_answer result) (seen J.Journal.meaning self.now) ≡ unheard_call revision (seen J.Journal.meaning self.now) }
         ensures station { IfOk result (λ a. NamesOne a.station (unheard (coordinator_entry revision (seen J.Journal.meaning self.now)))) }
     {
         let unheard = self.opened_entry(revision)?.unheard();
