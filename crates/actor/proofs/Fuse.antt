@@ -1,5 +1,5 @@
 -- Acts under a fuse.
-use Rattle.std.proofs.Common.{◌≡◌, ℕ, ◌+◌, ◌-◌, true, false, List, [], ◌∷◌, ◌++◌, sym, refl, ap, ◌∙◌, ne_eqb}
+use Rattle.std.proofs.Common.{◌≡◌, ℕ, true, false, List, [], ◌∷◌, ◌++◌, sym, refl, ap, ◌∙◌, ne_eqb}
 use Rattle.actor.specs.Acting.{Acting, failed, did, after, performed, shorter}
 use Rattle.presumption.specs.declared.outcome.Outcome.{Outcome}
 use Rattle.presumption.specs.declared.outcome.Outcome.TheVariants.{Commit, Abort}

@@ -12,7 +12,6 @@ use Rattle.journal.specs.declared.records.Record.{Record}
 use Rattle.presumption.specs.Answers.{Answers, Lawful}
 use Rattle.presumption.specs.declared.outcome.Outcome.{Outcome}
 use Rattle.presumption.specs.declared.outcome.Outcome.TheVariants as outcome
-use Rattle.station.specs.Acts.{post}
 use Rattle.station.specs.Recovery.{first_record}
 use Rattle.station.specs.Sets.{of_bits}
 use Rattle.station.specs.declared.coordinator.CoordinatorEntry.{CoordinatorEntry}

@@ -9,7 +9,6 @@ use Rattle.journal.specs.Meaning.{Section, section, held, no_section}
 use Rattle.journal.specs.declared.records.Kind.{Kind}
 use Rattle.journal.specs.declared.records.Kind.TheVariants as kind
 use Rattle.presumption.specs.Answers.{Answers, Lawful}
-use Rattle.station.specs.Acts.{post}
 use Rattle.station.specs.declared.coordinator.CoordinatorEntry.TheVariants as coordinator
 use Rattle.station.specs.declared.subordinate.SubordinateEntry.TheVariants as subordinate
 use Rattle.run.specs.State.{State, fits}
@@ -17,7 +16,6 @@ use Rattle.stations.specs.Stations.{station_at, no_station, power_at}
 use Rattle.stations.specs.declared.Station.{Station}
 use Rattle.station.specs.declared.subordinate.SubordinateEntry.{SubordinateEntry}
 use Rattle.assurance.proofs.Ideal as ideal
-use Rattle.station.specs.Coordinator.{known}
 use Rattle.station.specs.Sets.{empty}
 use Rattle.assurance.proofs.Sets.{mem_below}
 use Rattle.assurance.proofs.Every.{doubt_is, is_doubt, Full}

@@ -1,9 +1,8 @@
 -- Settling does to the view what the ideal run's settling does, delivery by delivery.
-use Rattle.std.proofs.Common.{◌≡◌, ℕ, zero, suc, ◌+◌, ◌<◌, ◌≤◌, Bool, true, false, cond, ◌&&◌, ltb, List, [], ◌∷◌, map, length, get_or, None, sym, refl, ap, ◌∙◌, subst, arith}
+use Rattle.std.proofs.Common.{◌≡◌, ℕ, zero, suc, ◌+◌, ◌<◌, ◌≤◌, Bool, true, false, cond, ◌&&◌, ltb, List, [], ◌∷◌, map, length, get_or, sym, refl, ap, ◌∙◌, subst, arith}
 use Rattle.std.proofs.lemmas.Bool.{cond-true, true≢false}
 use Rattle.std.specs.List.{AllByRecursion, range_with_len}
 use Rattle.presumption.specs.Answers.{Answers, Lawful}
-use Rattle.station.specs.Acts.{post}
 use Rattle.station.specs.declared.coordinator.CoordinatorEntry.{CoordinatorEntry}
 use Rattle.station.specs.declared.coordinator.CoordinatorEntry.TheVariants as coordinator
 use Rattle.station.specs.declared.messages.Message.{Message}
@@ -11,11 +10,9 @@ use Rattle.station.specs.declared.messages.MessageKind.{MessageKind}
 use Rattle.station.specs.declared.messages.MessageKind.TheVariants as message
 use Rattle.station.specs.declared.subordinate.SubordinateEntry.{SubordinateEntry}
 use Rattle.station.specs.declared.subordinate.SubordinateEntry.TheVariants as subordinate
-use Rattle.actor.specs.Store.{store}
 use Rattle.run.specs.State.{State}
 use Rattle.stations.specs.Stations.{subordinate_at}
 use Rattle.assurance.proofs.Ideal as ideal
-use Rattle.station.specs.Acts.{letter, reject}
 use Rattle.assurance.proofs.Every.{Full}
 use Rattle.assurance.proofs.Loads.{same_drain}
 use Rattle.assurance.proofs.View.{lt_true, mail_as, message_as, co_as, sub_as, view}

@@ -1,5 +1,5 @@
 -- Opening a revision does to the view what the ideal run's open does.
-use Rattle.std.proofs.Common.{◌≡◌, ℕ, zero, suc, ◌+◌, ◌/◌, ◌^◌, ◌<◌, ◌≤◌, Bool, true, false, cond, not, ◌&&◌, ◌||◌, eqb, ltb, List, [], ◌∷◌, ◌++◌, length, get_or, set, None, filter, sym, refl, ap, ◌∙◌, subst, inl, inr, one-mul, le-div_iff_mul-le, arith, length-set, get_or-set_other, get_or-set_same, set-set, pow_pos}
+use Rattle.std.proofs.Common.{◌≡◌, ℕ, zero, suc, ◌+◌, ◌/◌, ◌^◌, ◌<◌, ◌≤◌, Bool, true, false, cond, not, ◌&&◌, ◌||◌, eqb, ltb, List, [], ◌∷◌, ◌++◌, length, get_or, set, filter, sym, refl, ap, ◌∙◌, subst, inl, inr, one-mul, le-div_iff_mul-le, arith, length-set, get_or-set_other, get_or-set_same, set-set, pow_pos}
 use mathlib.Core.Path.{fun_ext}
 use Rattle.std.proofs.lemmas.Bool.Decides.{nat_tests}
 use Rattle.std.proofs.lemmas.Bool.{cond-true, cond-false, cases_Bool, cases_eq, cases_lt, true≢false, eq-eqb, ne_eqb, and_parts, not-true}
@@ -7,7 +7,6 @@ use Rattle.std.proofs.lemmas.List.{get_or_past, get_or_push, length_push}
 use Rattle.std.specs.List.{AllByRecursion, range_with_len}
 use Rattle.journal.specs.Meaning.{section}
 use Rattle.presumption.specs.Answers.{Answers, Lawful}
-use Rattle.station.specs.Acts.{post}
 use Rattle.station.specs.Sets.{of_bits}
 use Rattle.station.specs.declared.coordinator.CoordinatorEntry.TheVariants as coordinator
 use Rattle.station.specs.declared.sets.StationSet.{StationSet}
@@ -16,7 +15,7 @@ use Rattle.station.specs.declared.subordinate.SubordinateEntry.TheVariants as su
 use Rattle.actor.specs.Log.{row_at, row}
 use Rattle.actor.specs.Store.{Store, store}
 use Rattle.actor.specs.declared.log.Row.{Row}
-use Rattle.run.specs.State.{State, with_stations, fits}
+use Rattle.run.specs.State.{State, with_stations}
 use Rattle.stations.specs.Stations.{station_at, no_station, power_at}
 use Rattle.stations.specs.declared.Station.{Station}
 use Rattle.stations.specs.declared.Turn.TheVariants as turn

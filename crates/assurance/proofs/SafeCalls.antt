@@ -1,7 +1,7 @@
 -- YES, close, chase, inquire and restart keep the invariant between acts.
 use Rattle.std.proofs.Common.{◌≡◌, ℕ, ◌<◌, true, false, not, ◌&&◌, ◌||◌, eqb, List, [], ◌∷◌, sym, refl, ap, ◌∙◌, subst, inl, inr, arith}
 use Rattle.std.proofs.lemmas.Bool.{cond_both, true≢false, eqb-true, eq-eqb, ne_eqb, and_parts}
-use Rattle.assurance.proofs.Ideal.{in_set, with_station, members, kI, kC, kA, kE, kp, kc, ka, Record, has, argument_of, Outcome, commit, abort, CoordinatorEntry, none, Open, Collecting, Announcing, SubordinateEntry, idle, Active, Prepared, Station, MessageKind, PREPARE, COMMIT, ABORT, INQUIRY, Run, Presumption, at_station, written_station, forced_station, set_coordinator, with_message, write, force, send, acts_done, stay, to_coordinator, turn, step, line, letter, send_each, await, commit_acts, upon_yes, upon_close, upon_chase, upon_inquire, doubtful, outcome_of, resumed, restarted_station, settled}
+use Rattle.assurance.proofs.Ideal.{in_set, with_station, members, kI, kC, kA, kE, kp, kc, ka, Record, has, argument_of, Outcome, commit, abort, CoordinatorEntry, none, Open, Collecting, Announcing, SubordinateEntry, idle, Active, Prepared, Station, MessageKind, PREPARE, COMMIT, ABORT, INQUIRY, Run, Presumption, at_station, written_station, forced_station, set_coordinator, with_message, write, force, send, acts_done, stay, to_coordinator, turn, step, line, letter, send_each, await, commit_acts, upon_yes, upon_close, upon_chase, upon_inquire, doubtful, outcome_of, resumed, restarted_station}
 use Rattle.assurance.proofs.Lasting.{Got, Past, Inactive, Shut, Doom, Keeps, World, world, Grow, head, Named, Comm, Opened, Legal, CoLegal, SubLegal, opened_grows, recs_grow}
 use Rattle.assurance.proofs.SafeActs.{SafeSt, upd_same, here_in, keeps_co, grow_in, safe_in, safe_co_old}
 use Rattle.assurance.proofs.SafeSteps.{Oks, safe_acts, safe_step, safe_step_mid}

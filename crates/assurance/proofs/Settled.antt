@@ -1,5 +1,5 @@
 -- Settling brings each revision to its end, one after the other.
-use Rattle.std.proofs.Common.{◌≡◌, ℕ, ◌+◌, ◌<◌, ◌≤◌, true, not, ◌&&◌, eqb, ◌⊎◌, List, [], ◌∷◌, ◌++◌, length, sym, refl, ap, ◌∙◌, subst, inl, inr, arith}
+use Rattle.std.proofs.Common.{◌≡◌, ℕ, ◌<◌, ◌≤◌, true, not, ◌&&◌, eqb, ◌⊎◌, List, [], ◌∷◌, ◌++◌, length, sym, refl, ap, ◌∙◌, subst, inl, inr, arith}
 use Rattle.std.specs.List.{AllByRecursion, range_with_len}
 use Rattle.std.proofs.lemmas.Bool.{cond_both, cond-true, cases_eq, true≢false, cases_lt}
 use Rattle.assurance.proofs.Ideal.{in_set, members, kC, kA, kE, kp, ka, Record, Outcome, commit, abort, CoordinatorEntry, none, Open, Collecting, Announcing, SubordinateEntry, idle, Active, Prepared, MessageKind, ABORT, ACK, INQUIRY, Message, Plan, Run, Presumption, Logging, not_at_all, unforced, forced, with_post, Act, write, acts_done, Turn, stay, to_coordinator, turn, line, letter, send_each, outcome_mail, await, logged, end_acts, abort_acts, upon_outcome, upon_ack, upon_inquiry, upon_inquire, handed, hand_first, emptied, nudge, urged, asked, inquire_all, revise, revise_all, settled}

@@ -1,5 +1,5 @@
 -- What holds of one station between steps is kept by all its other steps.
-use Rattle.std.proofs.Common.{◌≡◌, ℕ, ◌+◌, true, false, eqb, ltb, List, [], ◌∷◌, ◌++◌, length, take, sym, refl, ap, ◌∙◌, subst, inl, inr, arith}
+use Rattle.std.proofs.Common.{◌≡◌, ℕ, true, false, eqb, ltb, List, [], ◌∷◌, ◌++◌, length, take, sym, refl, ap, ◌∙◌, subst, inl, inr, arith}
 use Rattle.std.proofs.lemmas.Bool.Decides.{nat_tests}
 use Rattle.std.proofs.lemmas.Bool.{cond_both, cond-true, cond-false, cases_eq, true≢false, eqb-true, eq-eqb}
 use Rattle.assurance.proofs.Ideal.{updated, in_set, kI, kC, kA, kE, Outcome, commit, abort, none, Open, Collecting, Announcing, idle, Station, Plan, Run, Presumption, at_station, written_station, forced_station, cut_station, set_coordinator, set_subordinate, with_message, marked_installed, marked_dropped, Act, write, force, send, installed, dropped, act_done, acts_done, Turn, turn, step, line, outcome_kind}

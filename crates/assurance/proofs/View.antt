@@ -1,9 +1,9 @@
 -- A run seen as an ideal run: stations, entries and rows by their numbers, writes that always succeed.
-use Rattle.std.proofs.Common.{◌≡◌, ℕ, ◌<◌, ◌≤◌, Bool, true, false, cond, ◌&&◌, ◌||◌, eqb, ltb, List, [], ◌∷◌, map, length, get_or, set, is_some, Some, None, sym, refl, ap, ◌∙◌, subst, inl, inr, arith, get_or-set_other, get_or-set_same}
+use Rattle.std.proofs.Common.{◌≡◌, ℕ, ◌<◌, ◌≤◌, Bool, true, false, cond, ◌&&◌, ◌||◌, eqb, ltb, List, [], ◌∷◌, map, length, get_or, set, is_some, Some, sym, refl, ap, ◌∙◌, subst, inl, inr, arith, get_or-set_other, get_or-set_same}
 use mathlib.Core.Path.{fun_ext}
 use Rattle.std.proofs.lemmas.Bool.Decides.{nat_tests}
 use Rattle.std.proofs.lemmas.Bool.{cond-true, cond-false, cases_eq, eq-eqb, ne_eqb}
-use Rattle.journal.specs.Meaning.{Section, section, changed, forced, no_section}
+use Rattle.journal.specs.Meaning.{Section, section, changed, no_section}
 use Rattle.journal.specs.Records.{letter_of}
 use Rattle.journal.specs.declared.records.Kind.{Kind}
 use Rattle.journal.specs.declared.records.Kind.TheVariants as kind
@@ -22,7 +22,6 @@ use Rattle.station.specs.declared.messages.MessageKind.TheVariants as message
 use Rattle.station.specs.declared.subordinate.SubordinateEntry.{SubordinateEntry}
 use Rattle.station.specs.declared.subordinate.SubordinateEntry.TheVariants as subordinate
 use Rattle.actor.specs.Log.{row_at}
-use Rattle.actor.specs.Store.{store}
 use Rattle.actor.specs.declared.log.Row.{Row}
 use Rattle.run.specs.State.{State}
 use Rattle.stations.specs.Stations.{station_at, no_station}

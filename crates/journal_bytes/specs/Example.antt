@@ -1,5 +1,5 @@
 -- A journal of two stations over 33 bytes, worked out: sections of 16 bytes, room for 3 records each.
-use Rattle.std.specs.Prelude.{◌≡◌, ℕ, ◌+◌, List, [], ◌∷◌, set, Some, None, slice_set}
+use Rattle.std.specs.Prelude.{◌≡◌, ℕ, ◌+◌, List, [], ◌∷◌, Some, None, slice_set}
 use Rattle.journal_bytes.specs.Changes.{bytes_written, bytes_forced, bytes_cut}
 use Rattle.journal_bytes.specs.Layout.{sections}
 use Rattle.journal_bytes.specs.Opening.{served_in}

@@ -1,7 +1,7 @@
 -- Settling, delivery by delivery and revision by revision.
 use Rattle.std.proofs.Common.{◌≡◌, ℕ, zero, suc, ◌+◌, ◌-◌, ◌*◌, ◌<◌, ◌≤◌, Bool, true, false, cond, ltb, List, [], ◌∷◌, length, sym, refl, ap, ◌∙◌, subst, inl, inr, arith}
 use Rattle.presumption.specs.Answers.{Answers}
-use Rattle.run.proofs.Loads.{Light, weight_some, weight_most, load_falls, fit_first, light_urged, light_inquiring}
+use Rattle.run.proofs.Loads.{Light, weight_some, weight_most, load_falls, fit_first, light_inquiring}
 use Rattle.run.specs.Calls.{coordinator_entry, deliver_call}
 use Rattle.run.specs.Settling.{Progress, Drained, progress, load, first_delivered, delivered, drained, urged, inquired, inquiring, resolved, finished, all_finished, settled}
 use Rattle.run.specs.State.{State}

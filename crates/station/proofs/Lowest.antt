@@ -1,5 +1,5 @@
 -- The lowest number in a set is in it.
-use Rattle.std.proofs.Common.{◌≡◌, ℕ, zero, suc, ◌*◌, ◌/◌, ◌%◌, ◌^◌, ◌<◌, true, false, sym, refl, ap, ◌∙◌, div-one, arith}
+use Rattle.std.proofs.Common.{◌≡◌, ℕ, zero, suc, ◌/◌, ◌%◌, ◌^◌, ◌<◌, true, false, sym, refl, ap, ◌∙◌, div-one, arith}
 use native.Mathlib.Nat.{pow-succ', div-div-eq-div-mul}
 use lib.Count.{count_trailing_zeros, under}
 use Rattle.std.proofs.lemmas.Bool.{eq-eqb}

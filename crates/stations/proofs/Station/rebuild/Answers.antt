@@ -1,7 +1,7 @@
 use Rattle.std.proofs.Common.{◌≡◌, ℕ, ◌+◌, sym, ap, ◌∙◌, subst, arith}
 use Rattle.journal.specs.Meaning.{section}
 use Rattle.stations.proofs.Rebuilds.{Partly, partly_none, partly_more, partly_all}
-use Rattle.stations.specs.Stations.{set_coordinator, set_subordinate}
+use Rattle.stations.specs.Stations.{set_subordinate}
 use Rattle.stations.specs.declared.Station.{Station}
 use Rattle.stations.proofs.Station.rebuild.Goals as goal
 

@@ -1,4 +1,4 @@
-use Rattle.std.proofs.Common.{◌≡◌, ◌-◌, ap, ◌∙◌}
+use Rattle.std.proofs.Common.{◌≡◌, ap, ◌∙◌}
 use Rattle.actor.specs.Acting.{Acting, begun, performed}
 use Rattle.actor.specs.Actors.{acting, store_of}
 use Rattle.actor.proofs.Steps.{acts_done, dark_burns, store_done}

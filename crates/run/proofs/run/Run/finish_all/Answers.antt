@@ -1,4 +1,4 @@
-use Rattle.std.proofs.Common.{◌≡◌, ℕ, ap, ◌∙◌, arith}
+use Rattle.std.proofs.Common.{ℕ, ap, ◌∙◌, arith}
 use Rattle.run.proofs.Settles.{load_few, finishing_begun, finishing_more, finishing_done, settled_is}
 use Rattle.run.specs.Runs.{seen}
 use Rattle.run.specs.Settling.{progress, all_finished}
