@@ -33,4 +33,5 @@ mod Plainly
 mod Holds
 mod AsData
 mod Marked
+mod Samples
 mod Stepwise
