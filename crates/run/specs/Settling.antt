@@ -114,6 +114,6 @@ settle_call π st = asked (fit? st ∷ every_power? st ∷ []) st (reply (answer
 abbrev pub awaited : CoordinatorEntry → StationSet
 awaited e = unheard e
 
--- The stations that revision r awaits, as a set's bits.
+-- The stations that revision r awaits, as a set's bits. How many there are the call `awaited` answers (`unheard_call`).
 abbrev pub awaited_call : ℕ → State → Reply
 awaited_call r st = asked (fit? st ∷ opened? r st ∷ []) st (reply (answered (awaited (coordinator_entry r st)).bits) st)

@@ -1,4 +1,4 @@
-//! The stations together: power, entries, and the calls that drive a run.
+//! A run: its calls, each with its questions and refusals, settling, and what a run shows.
 #![tactic(auto)]
 
 pub mod refusals;
