@@ -251,7 +251,7 @@ module _ (π : Answers) where
       go false = refl
 
   -- the first message, delivered where the run is fit
-  first_is : (st : State) (f k : ℕ) → st.fit ≡ true → 0 < length st.store.post → deliver_call π 0 false f k st ≡ handed π (message_at 0 st) f k (removed 0 st)
+  pub first_is : (st : State) (f k : ℕ) → st.fit ≡ true → 0 < length st.store.post → deliver_call π 0 false f k st ≡ handed π (message_at 0 st) f k (removed 0 st)
   first_is st f k e h = cond-true st.fit _ _ e ∙ cond-true (ltb 0 (length st.store.post)) _ _ (grind (arith, nat_tests))
 
   pub load_falls : (st : State) (f k : ℕ) → st.fit ≡ true → 0 < length st.store.post → load 8 (deliver_call π 0 false f k st).state.store.post < load 8 st.store.post

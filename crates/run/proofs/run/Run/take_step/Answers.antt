@@ -1,22 +1,12 @@
-use Rattle.std.proofs.Common.{min, length, vec_items, sym, refl, ◌∙◌}
-use Rattle.actor.specs.Actors.{store_of}
-use Rattle.run.proofs.Steps.{replies, step_cut, step_whole}
-use Rattle.run.specs.Runs.{seen}
-use Rattle.station.specs.Acts.{acts}
+use Rattle.std.proofs.Common.{rules}
+use Rattle.actor.specs.Store.{done_under_fuse}
+use Rattle.run.specs.State.{stepped}
 use Rattle.run.proofs.run.Run.take_step.Goals as goal
 
-pub returns-then-cut : goal.returns-then-cut
-returns-then-cut g c =
-    let meaning = g.J.Journal.meaning in
-    let st = seen meaning c.args.self.now in
-    let as' = acts (g.P.Presumption.answers c.args.self.now.presumption) c.args.station c.args.revision c.args.step in
-    let whole = step_cut as' c.args.station c.args.revision c.args.turn c.args.fuse c.args.kept st (store_of meaning c.step-acts.new.self) (vec_items c.cut.new.self.rows) c.step-acts.ensures.store (sym c.step-acts.ensures.cut ∙ c.if-cut.true) c.cut.ensures in
-    record { reply = replies c.step-acts.result.acts (min c.args.fuse (length as')) _ _ c.step-acts.ensures.acts whole; presumes = refl }
+pub returns-then-cut-clause-reply : goal.returns-then-cut-clause-reply
+unfolding done_under_fuse stepped
+returns-then-cut-clause-reply g c = search rules
 
-pub returns-else-cut : goal.returns-else-cut
-returns-else-cut g c =
-    let meaning = g.J.Journal.meaning in
-    let st = seen meaning c.args.self.now in
-    let as' = acts (g.P.Presumption.answers c.args.self.now.presumption) c.args.station c.args.revision c.args.step in
-    let whole = step_whole as' c.args.station c.args.revision c.args.turn c.args.fuse c.args.kept st (store_of meaning c.step-acts.new.self) (vec_items c.turn.new.self.rows) c.step-acts.ensures.store (sym c.step-acts.ensures.cut ∙ c.if-cut.false) c.turn.ensures in
-    record { reply = replies c.step-acts.result.acts (min c.args.fuse (length as')) _ _ c.step-acts.ensures.acts whole; presumes = refl }
+pub returns-else-cut-clause-reply : goal.returns-else-cut-clause-reply
+unfolding done_under_fuse stepped
+returns-else-cut-clause-reply g c = search rules
