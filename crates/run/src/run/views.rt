@@ -16,7 +16,7 @@ use stations::Stations;
 impl<J: Journal, P: Presumption> Run<J, P> {
     /// The stations, with their power and their entries.
     pub fn stations(&self) -> &Stations
-        ensures { result.now.rows.items ≡ (seen J.Journal.meaning self.now).stations }
+        ensures { result.now ≡ (seen J.Journal.meaning self.now).stations }
     {
         &self.stations
     }
