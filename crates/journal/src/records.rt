@@ -9,7 +9,7 @@ use crate::refusals::Refusal;
 pub const RECORD_BYTES: usize = 4;
 
 /// The kinds of record: four of the coordinator, three of the subordinate.
-#[derive(Clone, Copy)]
+#[derive(Clone, Copy, Debug, PartialEq, Eq)]
 pub enum Kind {
     /// I: the coordinator opens the vote.
     Opening,
@@ -28,7 +28,7 @@ pub enum Kind {
 }
 
 /// One record. The argument is a set of stations (I, C, A), 0 (E), or the coordinator's number (p, c, a).
-#[derive(Clone, Copy)]
+#[derive(Clone, Copy, Debug, PartialEq, Eq)]
 pub struct Record {
     pub kind: Kind,
     pub revision: u16,

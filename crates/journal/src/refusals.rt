@@ -1,7 +1,7 @@
 //! What a journal refuses.
 
 /// Why a call of a journal, or the reading of a record's bytes, is refused.
-#[derive(Clone, Copy)]
+#[derive(Clone, Copy, Debug, PartialEq, Eq)]
 pub enum Refusal {
     /// The journal does not serve that station: 11.
     NotServed,

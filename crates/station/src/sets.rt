@@ -7,7 +7,7 @@ ghost use Rattle.station.specs.Sets.{of_bits, empty, holds, single, with_station
 use journal::MAX_STATIONS;
 
 /// A set of stations: bit s, worth 2 to the power s, stands for station s.
-#[derive(Clone, Copy)]
+#[derive(Clone, Copy, Debug, Default, PartialEq, Eq)]
 pub struct StationSet {
     bits: u8,
 }
@@ -23,22 +23,25 @@ fn bit_of(station: u8) -> u8
     }
 }
 
-impl StationSet {
-    /// The set whose bits these are.
-    pub fn from_bits(bits: u8) -> StationSet
-        ensures { result ≡ of_bits bits }
-    {
+/// The set whose bits these are.
+impl From<u8> for StationSet {
+    ghost from_gives = { λ n x. x ≡ of_bits n };
+
+    fn from(bits: u8) -> StationSet {
         StationSet { bits }
     }
+}
 
-    /// The bits of the set, as a record's argument has them.
-    pub fn bits(self) -> u8
-        ensures { result ≡ self.bits }
-    {
-        let StationSet { bits } = self;
-        bits
+/// The bits of the set, as a record's argument has them.
+impl From<StationSet> for u8 {
+    ghost from_gives = { λ x n. n ≡ x.bits };
+
+    fn from(set: StationSet) -> u8 {
+        set.bits
     }
+}
 
+impl StationSet {
     /// Is nobody in the set?
     pub fn is_empty(self) -> bool
         ensures { result ≡ empty self }
