@@ -10,3 +10,19 @@ pub enum Refusal {
     /// The bytes begin with no record: 13.
     NotARecord,
 }
+
+/// The number of the refusal, by which listings name it.
+impl From<Refusal> for u8 {
+    ghost use Rattle.std.specs.Prelude.{◌≡◌};
+    ghost use Rattle.journal.specs.Meaning.{number};
+
+    ghost from_gives = { λ refusal told. told ≡ number refusal };
+
+    fn from(refusal: Refusal) -> u8 {
+        match refusal {
+            Refusal::NotServed => 11,
+            Refusal::Full => 12,
+            Refusal::NotARecord => 13,
+        }
+    }
+}
