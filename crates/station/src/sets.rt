@@ -1,10 +1,14 @@
 //! Sets of stations.
-ghost use Rattle.std.specs.Prelude.{◌≡◌, ◌/◌, ◌^◌, true, false, count_ones};
+ghost use Rattle.std.specs.Prelude.{◌≡◌, ◌/◌, ◌^◌, true, false, Some, count_ones};
 ghost use Rattle.std.specs.Int.Count.{count_trailing_zeros};
 ghost use Rattle.journal.specs.Limits.{most_stations};
-ghost use Rattle.station.specs.Sets.{of_bits, empty, holds, single, with_station, without_station, without_set, first_of, below, NamesOne};
+ghost use Rattle.station.specs.Sets.{of_bits, empty, holds, single, with_station, without_station, without_set, first_of, below, NamesOne, LeadsMembers};
 
 use journal::MAX_STATIONS;
+
+mod members;
+
+pub use members::Members;
 
 /// A set of stations: bit s, worth 2 to the power s, stands for station s.
 #[derive(Clone, Copy, Debug, Default, PartialEq, Eq)]
@@ -60,6 +64,7 @@ impl StationSet {
     pub fn first(self) -> Option<u8>
         ensures lowest { result ≡ first_of self }
         ensures one { NamesOne result self }
+        ensures leads { LeadsMembers result self }
     {
         if self.is_empty() {
             None
@@ -73,6 +78,7 @@ impl StationSet {
         requires { empty self ≡ false }
         ensures number { result ≡ count_trailing_zeros most_stations self.bits }
         ensures one { holds self result ≡ true }
+        ensures leads { LeadsMembers (Some result) self }
     {
         self.bits.trailing_zeros() as u8
     }
