@@ -33,7 +33,6 @@ pub struct Run<J: Journal, P: Presumption> {
 
 // A clause sees the presumption and the state.
 impl<J: Journal, P: Presumption> Model for Run<J, P> {
-    ghost use Rattle.std.specs.Prelude.{vec_items};
     ghost use Rattle.actor.specs.Actors.{store_of};
     ghost use Rattle.run.specs.Runs.{Shown};
 
@@ -44,7 +43,7 @@ impl<J: Journal, P: Presumption> Model for Run<J, P> {
       state = record {
         fit = x.fit;
         store = store_of J.Journal.meaning x.actor;
-        stations = vec_items x.stations.rows;
+        stations = x.stations;
       };
     } };
 }

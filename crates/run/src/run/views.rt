@@ -15,7 +15,7 @@ use stations::Stations;
 impl<J: Journal, P: Presumption> Run<J, P> {
     /// The stations, with their power and their entries.
     pub fn stations(&self) -> &Stations
-        ensures { result.now.rows.items ≡ self.now.state.stations }
+        ensures { result.now ≡ self.now.state.stations }
     {
         &self.stations
     }
