@@ -1,4 +1,3 @@
-pub mod Fuse
+pub mod Performed
 pub mod Posts
 pub mod Steps
-pub mod Places
