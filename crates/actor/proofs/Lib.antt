@@ -1,3 +1,3 @@
 pub mod Performed
-pub mod Posts
 pub mod Steps
+pub mod Places

@@ -1,6 +1,6 @@
 -- A station in the middle of a step, as the code performs it act by act.
 use Rattle.std.specs.Prelude.{ℕ, ◌+◌, Bool, true, false, cond, List, [], ◌∷◌, nat_lt}
-use Rattle.actor.specs.Store as acts
+use Rattle.actor.specs.Store as on_store
 use Rattle.actor.specs.Store.{Store, journal_cut}
 use Rattle.actor.specs.declared.fuse.Fuse.{Fuse}
 use Rattle.station.specs.Acts.{Act}
@@ -29,7 +29,7 @@ burnt l = cond l.dark l (cond (nat_lt l.done l.fuse.acts) (record l { done = l.d
 
 -- An act of a station, which does nothing where it is dark.
 abbrev pub did : Act → Acting → Acting
-did a l = cond l.dark l (record l { store = acts.done l.station a l.store })
+did a l = cond l.dark l (record l { store = on_store.done l.station a l.store })
 
 -- An act where it is due.
 unfoldable pub after : Act → Acting → Acting

@@ -33,7 +33,8 @@ impl<J: Journal> Actor<J> {
     pub fn new(heap: Global, journal: J) -> Result<Actor<J>, AllocError>
     where
         J: Drop,
-        ensures { IfOk result (λ x. store_of J.Journal.meaning x ≡ store (J.Journal.meaning journal) [] []) }
+        ensures { IfOk result (λ x. store_of J.Journal.meaning x
+            ≡ store (J.Journal.meaning journal) [] []) }
     {
         let post = Post::new(heap)?;
         let log = Log::new(heap)?;
@@ -65,13 +66,15 @@ impl<J: Journal> Actor<J> {
     /// One row more in the as-run log. Answers the revision's number, or none where all are opened.
     pub fn add_row(&mut self, coordinator: u8, set: StationSet) -> Option<u16>
         ensures number { result ≡ new_number (store_of J.Journal.meaning self.old).log }
-        ensures store { store_of J.Journal.meaning self.new ≡ with_row coordinator set (store_of J.Journal.meaning self.old) }
+        ensures store { store_of J.Journal.meaning self.new
+            ≡ with_row coordinator set (store_of J.Journal.meaning self.old) }
     {
         let revision = self.opened();
         if revision >= usize::from(MAX_REVISIONS) {
             return None;
         }
         self.log.add(coordinator, set);
+        // `as` is proved to lose nothing here, where `try_from` would bring in a failure.
         Some(revision as u16)
     }
 
@@ -92,22 +95,24 @@ impl<J: Journal> Actor<J> {
 
     /// Removes the message at a place.
     pub fn remove(&mut self, place: usize)
-        ensures { store_of J.Journal.meaning self.new ≡ less place (store_of J.Journal.meaning self.old) }
+        ensures { store_of J.Journal.meaning self.new
+            ≡ less place (store_of J.Journal.meaning self.old) }
     {
         self.post.remove(place);
     }
 
-    #[tactic(auto, unfolding(crate::specs::Store::journal_cut))]
     /// The power fails at a station, and so many of its unforced records are kept.
+    #[tactic(auto, unfolding(crate::specs::Store::journal_cut))]
     pub fn cut(&mut self, station: u8, kept: u8)
-        ensures { store_of J.Journal.meaning self.new ≡ journal_cut station kept (store_of J.Journal.meaning self.old) }
+        ensures { store_of J.Journal.meaning self.new
+            ≡ journal_cut station kept (store_of J.Journal.meaning self.old) }
     {
         let _ = self.journal.cut(station, usize::from(kept));
     }
 
+    /// Performs a step of a station for a revision, under a fuse. Answers how many acts were done;
+    /// where the fuse burns before the last of them, the station's journal is cut.
     #[tactic(auto, using(crate::proofs::Steps::store_under_fuse))]
-    /// Performs a step of a station for a revision. Answers the acts done, or the power cut where the
-    /// fuse burns before the last of them.
     pub fn step<P: Presumption>(
         &mut self,
         presumption: &P,
@@ -116,8 +121,13 @@ impl<J: Journal> Actor<J> {
         step: Step,
         fuse: Fuse,
     ) -> Result<u8, PowerCut>
-        ensures store { store_of J.Journal.meaning self.new ≡ done_under_fuse station (acts (P.Presumption.answers presumption.now) station revision step) fuse.acts fuse.kept (store_of J.Journal.meaning self.old) }
-        ensures answer { result ≡ answer_under_fuse fuse.acts (acts (P.Presumption.answers presumption.now) station revision step) }
+        ensures store { store_of J.Journal.meaning self.new
+            ≡ done_under_fuse station
+            (acts (P.Presumption.answers presumption.now) station revision step)
+            fuse.acts fuse.kept (store_of J.Journal.meaning self.old) }
+        ensures answer { result
+            ≡ answer_under_fuse fuse.acts
+            (acts (P.Presumption.answers presumption.now) station revision step) }
     {
         let mut acting = Acting::new(self, presumption, station, revision, fuse);
         acting.perform(step)?;

@@ -6,7 +6,6 @@ ghost use Rattle.station.specs.Acts as acts;
 
 use crate::actor::Actor;
 use crate::fuse::{Fuse, PowerCut};
-use journal::MAX_STATIONS;
 use journal::calls::Journal;
 use journal::records::{Kind, Record};
 use presumption::outcome::Outcome;
@@ -15,7 +14,7 @@ use station::messages::{Message, MessageKind};
 use station::sets::StationSet;
 use station::subordinate::GivenVote;
 
-/// A record was written that must be forced. It is not `Drop`: only a force or a power cut spends it.
+/// A record was written that must be forced. Not `Drop`: only a force or a power cut spends it.
 pub(crate) struct Debt {
     station: u8,
     owed: Record,
@@ -49,7 +48,8 @@ impl<'a, J: Journal, P> Acting<'a, J, P> {
         revision: u16,
         fuse: Fuse,
     ) -> Acting<'a, J, P>
-        ensures state { acting J.Journal.meaning false result ≡ begun station fuse (store_of J.Journal.meaning actor.old) }
+        ensures state { acting J.Journal.meaning false result
+            ≡ begun station fuse (store_of J.Journal.meaning actor.old) }
         ensures revision { result.revision ≡ revision }
         ensures presumption { result.presumption.now ≡ presumption.now }
         ensures actor { result.actor.ghost_name ≡ actor.entry.ghost_name }
@@ -106,7 +106,9 @@ impl<'a, J: Journal, P> Acting<'a, J, P> {
 
     /// Writes a record that must be forced, and leaves the debt.
     pub(crate) fn write_due(&mut self, line: Record) -> Result<Debt, PowerCut>
-        ensures acts { Changes J.Journal.meaning (after (acts.write line)) self.old result self.new }
+        ensures acts { Changes J.Journal.meaning
+            (after (acts.write line))
+            self.old result self.new }
         ensures owes { IfOk result (λ d. (d.station ≡ self.old.station) × (d.owed ≡ line)) }
     {
         self.write(line)?;
@@ -133,7 +135,9 @@ impl<'a, J: Journal, P> Acting<'a, J, P> {
 
     /// Marks the revision installed or dropped.
     pub(crate) fn mark(&mut self, outcome: Outcome) -> Result<(), PowerCut>
-        ensures { Changes J.Journal.meaning (after (acts.mark outcome self.old.revision)) self.old result self.new }
+        ensures { Changes J.Journal.meaning
+            (after (acts.mark outcome self.old.revision))
+            self.old result self.new }
     {
         self.burn()?;
         self.actor.log.mark(outcome, self.revision, self.station);
@@ -142,7 +146,9 @@ impl<'a, J: Journal, P> Acting<'a, J, P> {
 
     // Posts one message about the revision.
     fn put(&mut self, kind: MessageKind, receiver: u8) -> Result<(), PowerCut>
-        ensures { Changes J.Journal.meaning (after (acts.post (acts.letter kind self.old.revision self.old.station receiver))) self.old result self.new }
+        ensures { Changes J.Journal.meaning
+            (after (acts.post (acts.letter kind self.old.revision self.old.station receiver)))
+            self.old result self.new }
     {
         self.burn()?;
         self.actor.post.add(Message {
@@ -157,13 +163,14 @@ impl<'a, J: Journal, P> Acting<'a, J, P> {
 
 impl<J: Journal, P> Acting<'_, J, P> {
     // Posts to each station of a set, ascending: an act for each.
+    #[tactic(auto, using(crate::proofs::Performed::dark_performed))]
     fn put_each(&mut self, kind: MessageKind, set: StationSet) -> Result<(), PowerCut>
-        ensures { Changes J.Journal.meaning (performed (acts.post_each kind self.old.revision self.old.station set)) self.old result self.new }
+        ensures { Changes J.Journal.meaning
+            (performed (acts.post_each kind self.old.revision self.old.station set))
+            self.old result self.new }
     {
-        for receiver in 0..MAX_STATIONS {
-            if set.contains(receiver) {
-                self.put(kind, receiver)?;
-            }
+        for receiver in set {
+            self.put(kind, receiver)?;
         }
         Ok(())
     }
@@ -171,7 +178,9 @@ impl<J: Journal, P> Acting<'_, J, P> {
     /// Posts a message that needs no receipt.
     pub(crate) fn post(&mut self, kind: MessageKind, receiver: u8) -> Result<(), PowerCut>
         requires { guarded kind ≡ false }
-        ensures { Changes J.Journal.meaning (after (acts.post (acts.letter kind self.old.revision self.old.station receiver))) self.old result self.new }
+        ensures { Changes J.Journal.meaning
+            (after (acts.post (acts.letter kind self.old.revision self.old.station receiver)))
+            self.old result self.new }
     {
         self.put(kind, receiver)
     }
@@ -179,65 +188,69 @@ impl<J: Journal, P> Acting<'_, J, P> {
     /// Posts a message that needs no receipt to each station of a set.
     pub(crate) fn post_each(&mut self, kind: MessageKind, set: StationSet) -> Result<(), PowerCut>
         requires { guarded kind ≡ false }
-        ensures { Changes J.Journal.meaning (performed (acts.post_each kind self.old.revision self.old.station set)) self.old result self.new }
+        ensures { Changes J.Journal.meaning
+            (performed (acts.post_each kind self.old.revision self.old.station set))
+            self.old result self.new }
     {
         self.put_each(kind, set)
     }
 
     /// Posts YES, which spends the receipt for the prepared record.
-    pub(crate) fn post_yes(&mut self, receipt: Receipt, receiver: u8) -> Result<(), PowerCut>
-        requires here { receipt.station ≡ self.old.station }
-        requires prepared { (receipt.paid.kind ≡ Kind.Prepared) × (receipt.paid.revision ≡ self.old.revision) }
-        ensures { Changes J.Journal.meaning (after (acts.post (acts.letter MessageKind.Yes self.old.revision self.old.station receiver))) self.old result self.new }
+    pub(crate) fn post_yes(&mut self, _receipt: Receipt, receiver: u8) -> Result<(), PowerCut>
+        requires here { _receipt.station ≡ self.old.station }
+        requires prepared { _receipt.paid.kind ≡ Kind.Prepared }
+        requires about { _receipt.paid.revision ≡ self.old.revision }
+        ensures { Changes J.Journal.meaning
+            (after (acts.post
+            (acts.letter MessageKind.Yes self.old.revision self.old.station receiver)))
+            self.old result self.new }
     {
-        let Receipt {
-            station: _,
-            paid: _,
-        } = receipt;
         self.put(MessageKind::Yes, receiver)
     }
 
     /// Posts YES once more, where the vote was given already.
     pub(crate) fn repeat_yes(&mut self, _vote: GivenVote, receiver: u8) -> Result<(), PowerCut>
-        ensures { Changes J.Journal.meaning (after (acts.post (acts.letter MessageKind.Yes self.old.revision self.old.station receiver))) self.old result self.new }
+        ensures { Changes J.Journal.meaning
+            (after (acts.post
+            (acts.letter MessageKind.Yes self.old.revision self.old.station receiver)))
+            self.old result self.new }
     {
         self.put(MessageKind::Yes, receiver)
     }
 
     /// Posts a decision's COMMITs, which spend the receipt for the commit record.
-    pub(crate) fn post_commits(&mut self, receipt: Receipt, set: StationSet) -> Result<(), PowerCut>
-        requires here { receipt.station ≡ self.old.station }
-        requires commit { (receipt.paid.kind ≡ Kind.Commit) × (receipt.paid.revision ≡ self.old.revision) }
-        ensures { Changes J.Journal.meaning (performed (acts.post_each MessageKind.Commit self.old.revision self.old.station set)) self.old result self.new }
+    pub(crate) fn post_commits(
+        &mut self,
+        _receipt: Receipt,
+        set: StationSet,
+    ) -> Result<(), PowerCut>
+        requires here { _receipt.station ≡ self.old.station }
+        requires commit { _receipt.paid.kind ≡ Kind.Commit }
+        requires about { _receipt.paid.revision ≡ self.old.revision }
+        ensures { Changes J.Journal.meaning
+            (performed (acts.post_each MessageKind.Commit self.old.revision self.old.station set))
+            self.old result self.new }
     {
-        let Receipt {
-            station: _,
-            paid: _,
-        } = receipt;
         self.put_each(MessageKind::Commit, set)
     }
 
     /// Tells one station an outcome that is known already.
     pub(crate) fn tell(&mut self, known: KnownOutcome, receiver: u8) -> Result<(), PowerCut>
-        ensures { Changes J.Journal.meaning (after (acts.post (acts.letter (acts.telling known.outcome) self.old.revision self.old.station receiver))) self.old result self.new }
+        ensures { Changes J.Journal.meaning
+            (after (acts.post
+            (acts.letter (acts.telling known.outcome) self.old.revision self.old.station receiver)))
+            self.old result self.new }
     {
-        self.put(message_of(known.outcome()), receiver)
+        self.put(MessageKind::from(known.outcome()), receiver)
     }
 
     /// Tells each station of a set an outcome that is known already.
     pub(crate) fn tell_each(&mut self, known: KnownOutcome, set: StationSet) -> Result<(), PowerCut>
-        ensures { Changes J.Journal.meaning (performed (acts.post_each (acts.telling known.outcome) self.old.revision self.old.station set)) self.old result self.new }
+        ensures { Changes J.Journal.meaning
+            (performed (acts.post_each
+            (acts.telling known.outcome) self.old.revision self.old.station set))
+            self.old result self.new }
     {
-        self.put_each(message_of(known.outcome()), set)
-    }
-}
-
-// The message that tells an outcome.
-fn message_of(outcome: Outcome) -> MessageKind
-    ensures { result ≡ acts.telling outcome }
-{
-    match outcome {
-        Outcome::Commit => MessageKind::Commit,
-        Outcome::Abort => MessageKind::Abort,
+        self.put_each(MessageKind::from(known.outcome()), set)
     }
 }

@@ -1,6 +1,6 @@
 //! The fuse of a step, and the power cut that comes where it burns.
 
-/// So many acts of a step are done before the power fails, and so many unforced records are kept then.
+/// So many acts of a step are done before the power fails; so many unforced records are kept then.
 #[derive(Clone, Copy, Debug, PartialEq, Eq)]
 pub struct Fuse {
     pub acts: u8,

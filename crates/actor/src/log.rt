@@ -10,8 +10,8 @@ use station::sets::StationSet;
 use std::alloc::{AllocError, Global};
 use std::marker::Model;
 
-/// One revision: who coordinates it, which stations it names, where it was installed and where dropped.
-#[derive(Clone, Copy)]
+/// One revision: its coordinator, the stations it names, where it was installed, where dropped.
+#[derive(Clone, Copy, Debug, PartialEq, Eq)]
 pub struct Row {
     pub coordinator: u8,
     pub set: StationSet,
@@ -47,7 +47,8 @@ impl Model for Log {
 
     ghost view = { λ l. l.rows.items };
 
-    ghost invariant = { λ l. (most_revisions ≤ vec_capacity l.rows) × (length l.rows.items ≤ most_revisions) };
+    ghost invariant = { λ l. (most_revisions ≤ vec_capacity l.rows)
+        × (length l.rows.items ≤ most_revisions) };
 }
 
 impl Log {
@@ -77,7 +78,7 @@ impl Log {
         requires { length self.old < most_revisions }
         ensures { self.new ≡ self.old ++ row coordinator set ∷ [] }
     {
-        let nobody = StationSet::from_bits(0);
+        let nobody = StationSet::default();
         self.rows.push_reserved(Row {
             coordinator,
             set,

@@ -14,11 +14,13 @@ use station::messages::MessageKind;
 use station::sets::StationSet;
 use station::steps::Step;
 
-#[tactic(auto, using(crate::proofs::Performed::after_dark, crate::proofs::Performed::dark_performed, crate::proofs::Performed::performed_append))]
+#[tactic(auto, using(crate::proofs::Performed::performing))]
 impl<J: Journal, P: Presumption> Acting<'_, J, P> {
-    // Writes a record and forces it.
+    // Writes a record and forces it. `prepare` and `decide_commit` do so openly, for the receipt.
     fn write_forced(&mut self, line: Record) -> Result<(), PowerCut>
-        ensures { Changes J.Journal.meaning (performed (acts.write line ∷ acts.force ∷ [])) self.old result self.new }
+        ensures { Changes J.Journal.meaning
+            (performed (acts.write line ∷ acts.force ∷ []))
+            self.old result self.new }
     {
         let debt = self.write_due(line)?;
         let _receipt = self.force(debt)?;
@@ -27,10 +29,13 @@ impl<J: Journal, P: Presumption> Acting<'_, J, P> {
 
     // Opens the vote.
     fn open_vote(&mut self, set: StationSet) -> Result<(), PowerCut>
-        ensures { Changes J.Journal.meaning (performed (acts.open_vote (P.Presumption.answers self.old.presumption.now) self.old.station self.old.revision set)) self.old result self.new }
+        ensures { Changes J.Journal.meaning
+            (performed (acts.open_vote (P.Presumption.answers self.old.presumption.now)
+            self.old.station self.old.revision set))
+            self.old result self.new }
     {
         if self.presumption.opens() {
-            let line = self.line(Kind::Opening, set.bits());
+            let line = self.line(Kind::Opening, u8::from(set));
             self.write_forced(line)?;
         }
         self.post_each(MessageKind::Prepare, set)
@@ -38,7 +43,9 @@ impl<J: Journal, P: Presumption> Acting<'_, J, P> {
 
     // Writes p, forces it and votes YES.
     fn prepare(&mut self, coordinator: u8, sender: u8) -> Result<(), PowerCut>
-        ensures { Changes J.Journal.meaning (performed (acts.prepare self.old.station self.old.revision coordinator sender)) self.old result self.new }
+        ensures { Changes J.Journal.meaning
+            (performed (acts.prepare self.old.station self.old.revision coordinator sender))
+            self.old result self.new }
     {
         let line = self.line(Kind::Prepared, coordinator);
         let debt = self.write_due(line)?;
@@ -48,9 +55,11 @@ impl<J: Journal, P: Presumption> Acting<'_, J, P> {
 
     // Writes C, forces it and tells the set.
     fn decide_commit(&mut self, set: StationSet) -> Result<(), PowerCut>
-        ensures { Changes J.Journal.meaning (performed (acts.commit self.old.station self.old.revision set)) self.old result self.new }
+        ensures { Changes J.Journal.meaning
+            (performed (acts.commit self.old.station self.old.revision set))
+            self.old result self.new }
     {
-        let line = self.line(Kind::Commit, set.bits());
+        let line = self.line(Kind::Commit, u8::from(set));
         let debt = self.write_due(line)?;
         let receipt = self.force(debt)?;
         self.post_commits(receipt, set)
@@ -58,9 +67,12 @@ impl<J: Journal, P: Presumption> Acting<'_, J, P> {
 
     // Logs an abort as the presumption says.
     fn log_abort(&mut self, set: StationSet) -> Result<(), PowerCut>
-        ensures { Changes J.Journal.meaning (performed (acts.logged (P.Presumption.answers self.old.presumption.now).abort_logging (acts.line Kind.Abort self.old.revision set.bits))) self.old result self.new }
+        ensures { Changes J.Journal.meaning
+            (performed (acts.logged (P.Presumption.answers self.old.presumption.now).abort_logging
+            (acts.line Kind.Abort self.old.revision set.bits)))
+            self.old result self.new }
     {
-        let line = self.line(Kind::Abort, set.bits());
+        let line = self.line(Kind::Abort, u8::from(set));
         match self.presumption.abort_logging() {
             Logging::NotAtAll => Ok(()),
             Logging::Unforced => self.write(line),
@@ -70,7 +82,10 @@ impl<J: Journal, P: Presumption> Acting<'_, J, P> {
 
     // Logs the abort, tells some, and ends at once where nobody is awaited.
     fn decide_abort(&mut self, set: StationSet, told: StationSet) -> Result<(), PowerCut>
-        ensures { Changes J.Journal.meaning (performed (acts.abort (P.Presumption.answers self.old.presumption.now) self.old.station self.old.revision set told)) self.old result self.new }
+        ensures { Changes J.Journal.meaning
+            (performed (acts.abort (P.Presumption.answers self.old.presumption.now)
+            self.old.station self.old.revision set told))
+            self.old result self.new }
     {
         self.log_abort(set)?;
         self.post_each(MessageKind::Abort, told)?;
@@ -82,7 +97,9 @@ impl<J: Journal, P: Presumption> Acting<'_, J, P> {
 
     // Writes E.
     fn end(&mut self) -> Result<(), PowerCut>
-        ensures { Changes J.Journal.meaning (after (acts.write (acts.line Kind.End self.old.revision 0))) self.old result self.new }
+        ensures { Changes J.Journal.meaning
+            (after (acts.write (acts.line Kind.End self.old.revision 0)))
+            self.old result self.new }
     {
         let line = self.line(Kind::End, 0);
         self.write(line)
@@ -90,7 +107,11 @@ impl<J: Journal, P: Presumption> Acting<'_, J, P> {
 
     // Marks the outcome, then writes its record and forces it if it is forced.
     fn record_outcome(&mut self, outcome: Outcome, coordinator: u8) -> Result<(), PowerCut>
-        ensures { Changes J.Journal.meaning (performed (acts.mark outcome self.old.revision ∷ acts.write (acts.line (acts.outcome_kind outcome) self.old.revision coordinator) ∷ acts.if_so ((P.Presumption.answers self.old.presumption.now).forces outcome) (acts.force ∷ []))) self.old result self.new }
+        ensures { Changes J.Journal.meaning
+            (performed (acts.mark outcome self.old.revision
+            ∷ acts.write (acts.line (acts.outcome_kind outcome) self.old.revision coordinator)
+            ∷ acts.if_so ((P.Presumption.answers self.old.presumption.now).forces outcome) (acts.force ∷ [])))
+            self.old result self.new }
     {
         self.mark(outcome)?;
         let line = self.line(outcome_record(outcome), coordinator);
@@ -103,7 +124,10 @@ impl<J: Journal, P: Presumption> Acting<'_, J, P> {
 
     // Acknowledges the outcome, if it is acknowledged.
     fn acknowledge(&mut self, outcome: Outcome, receiver: u8) -> Result<(), PowerCut>
-        ensures { Changes J.Journal.meaning (performed (acts.acknowledge (P.Presumption.answers self.old.presumption.now) self.old.station self.old.revision outcome receiver)) self.old result self.new }
+        ensures { Changes J.Journal.meaning
+            (performed (acts.acknowledge (P.Presumption.answers self.old.presumption.now)
+            self.old.station self.old.revision outcome receiver))
+            self.old result self.new }
     {
         if self.presumption.acknowledges(outcome) {
             self.post(MessageKind::Ack, receiver)?;
@@ -113,7 +137,10 @@ impl<J: Journal, P: Presumption> Acting<'_, J, P> {
 
     // Carries the outcome out: the mark comes before its record.
     fn enforce(&mut self, outcome: Outcome, coordinator: u8) -> Result<(), PowerCut>
-        ensures { Changes J.Journal.meaning (performed (acts.enforce (P.Presumption.answers self.old.presumption.now) self.old.station self.old.revision outcome coordinator)) self.old result self.new }
+        ensures { Changes J.Journal.meaning
+            (performed (acts.enforce (P.Presumption.answers self.old.presumption.now)
+            self.old.station self.old.revision outcome coordinator))
+            self.old result self.new }
     {
         self.record_outcome(outcome, coordinator)?;
         self.acknowledge(outcome, coordinator)
@@ -121,7 +148,10 @@ impl<J: Journal, P: Presumption> Acting<'_, J, P> {
 
     /// Performs the acts of a step.
     pub(crate) fn perform(&mut self, step: Step) -> Result<(), PowerCut>
-        ensures { Changes J.Journal.meaning (performed (acts.acts (P.Presumption.answers self.old.presumption.now) self.old.station self.old.revision step)) self.old result self.new }
+        ensures { Changes J.Journal.meaning
+            (performed (acts.acts (P.Presumption.answers self.old.presumption.now)
+            self.old.station self.old.revision step))
+            self.old result self.new }
     {
         match step {
             Step::Rest => Ok(()),
@@ -148,7 +178,7 @@ impl<J: Journal, P: Presumption> Acting<'_, J, P> {
     }
 }
 
-// The subordinate's record of an outcome. A function, since neither `Kind` nor `Outcome` is this crate's to give a `From`.
+// The subordinate's record of an outcome. No `From`, since neither type is this crate's.
 fn outcome_record(outcome: Outcome) -> Kind
     ensures { result ≡ acts.outcome_kind outcome }
 {

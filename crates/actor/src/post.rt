@@ -25,7 +25,8 @@ impl Model for Post {
 
     ghost view = { λ p. p.messages.items };
 
-    ghost invariant = { λ p. (most_waiting ≤ vec_capacity p.messages) × (length p.messages.items ≤ most_waiting) };
+    ghost invariant = { λ p. (most_waiting ≤ vec_capacity p.messages)
+        × (length p.messages.items ≤ most_waiting) };
 }
 
 impl Post {

@@ -1,13 +1,12 @@
 use Rattle.std.proofs.Common.{rules}
 use Rattle.actor.specs.Actors.{store_of}
 use Rattle.actor.proofs.Steps.{answer_of_step}
-use Rattle.station.specs.Acts.{acts}
 use Rattle.actor.proofs.actor.Actor.step.Goals as goal
 
 pub returns-in_err-perform-clause-answer : goal.returns-in_err-perform-clause-answer
 returns-in_err-perform-clause-answer g c =
-    rw (answer_of_step c.args.station (acts (g.P.Presumption.answers c.args.presumption.now) c.args.station c.args.revision c.args.step) c.args.fuse (store_of g.J.Journal.meaning c.args.self.now)) (search rules)
+    rw (answer_of_step c.args.station (store_of g.J.Journal.meaning c.args.self.now)) (search rules)
 
 pub returns-clause-answer : goal.returns-clause-answer
 returns-clause-answer g c =
-    rw (answer_of_step c.args.station (acts (g.P.Presumption.answers c.args.presumption.now) c.args.station c.args.revision c.args.step) c.args.fuse (store_of g.J.Journal.meaning c.args.self.now)) (search rules)
+    rw (answer_of_step c.args.station (store_of g.J.Journal.meaning c.args.self.now)) (search rules)
