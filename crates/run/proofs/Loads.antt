@@ -1,37 +1,32 @@
 -- Each delivery lowers the load of the post, in every state, so that a drained post is empty.
-use Rattle.std.proofs.Common.{◌≡◌, ℕ, zero, suc, ◌+◌, ◌*◌, ◌<◌, ◌≤◌, Bool, true, false, cond, ◌&&◌, eqb, ltb, List, [], ◌∷◌, ◌++◌, map, length, get_or, take, refl, ◌∙◌, arith}
+use Rattle.std.proofs.Common.{◌≡◌, ℕ, zero, suc, ◌+◌, ◌*◌, ◌<◌, ◌≤◌, Bool, true, false, ◌&&◌, ltb, List, [], ◌∷◌, ◌++◌, map, length, get_or, take, refl, ◌∙◌, arith}
 use Rattle.actor.specs.Post.{posted, without}
-use Rattle.actor.specs.Store.{Store, done, all_done, journal_cut, burns}
+use Rattle.actor.specs.Store.{Store, done, all_done, journal_cut}
 use Rattle.presumption.specs.Answers.{Answers}
 use Rattle.presumption.specs.declared.outcome.Logging.{Logging}
-use Rattle.presumption.specs.declared.outcome.Logging.TheVariants as logging
 use Rattle.presumption.specs.declared.outcome.Outcome.{Outcome}
 use Rattle.presumption.specs.declared.outcome.Outcome.TheVariants as outcome
 use Rattle.journal.specs.declared.records.Kind.TheVariants as kind
 use Rattle.journal.specs.declared.records.Record.{Record}
-use Rattle.run.specs.Answers.{answered}
-use Rattle.run.specs.Calls.{Reply, reply, refuse, asked, moved, if_allowed, turning, coordinator_questions, subordinate_questions, coordinator_of, coordinator_entry, heard, handed, message_at, removed, deliver_call}
-use Rattle.run.specs.Settling.{Progress, weight, load, first_delivered, delivered, drained, urged, inquired}
-use Rattle.run.specs.State.{State, with_store, with_stations, cut_off, stepped}
-use Rattle.stations.specs.Stations.{turn_entry, power_at, coordinator_at, subordinate_at}
+use Rattle.run.specs.Calls.{Reply, asked, moved, if_allowed, turning, heard, handed, message_at, removed, deliver_call}
+use Rattle.run.specs.Settling.{weight, load, urged, inquired}
+use Rattle.run.specs.State.{State, stepped}
 use Rattle.stations.specs.declared.Station.{Station}
 use Rattle.stations.specs.declared.Turn.{Turn}
 use Rattle.stations.specs.declared.Turn.TheVariants as turn
 use Rattle.std.specs.Option.{option_map}
 use Rattle.station.specs.Acts.{Act, write, force, post, mark_installed, mark_dropped, acts, letter, line, post_each, if_so, telling, logged, mark, acknowledge}
-use Rattle.station.specs.Coordinator.{coordinator_move, decide_commit, decide_abort, known, give_up_move, chase_move}
-use Rattle.station.specs.Moves.{Move, move}
-use Rattle.station.specs.Sets.{empty, holds, members, with_station, without_station}
+use Rattle.station.specs.Coordinator.{coordinator_move, give_up_move, chase_move}
+use Rattle.station.specs.Moves.{Move}
+use Rattle.station.specs.Sets.{empty, holds, members}
 use Rattle.station.specs.Subordinate.{subordinate_move, inquire_move}
 use Rattle.station.specs.declared.coordinator.CoordinatorEntry.{CoordinatorEntry}
-use Rattle.station.specs.declared.coordinator.CoordinatorEntry.TheVariants as coordinator
 use Rattle.station.specs.declared.messages.Message.{Message}
 use Rattle.station.specs.declared.messages.MessageKind.{MessageKind}
 use Rattle.station.specs.declared.messages.MessageKind.TheVariants as message
 use Rattle.station.specs.declared.sets.StationSet.{StationSet}
 use Rattle.station.specs.declared.steps.Step.TheVariants as step
 use Rattle.station.specs.declared.subordinate.SubordinateEntry.{SubordinateEntry}
-use Rattle.station.specs.declared.subordinate.SubordinateEntry.TheVariants as subordinate
 use Rattle.std.proofs.lemmas.List.FromFn.{length-range_with_len}
 use Rattle.std.proofs.lemmas.List.Sums.{length-filter, count_by-le-length}
 use Rattle.std.proofs.lemmas.Bool.{cond-true}

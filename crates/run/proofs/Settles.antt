@@ -1,17 +1,15 @@
 -- Settling, delivery by delivery and revision by revision.
-use Rattle.std.proofs.Common.{◌≡◌, ℕ, zero, suc, ◌+◌, ◌-◌, ◌*◌, ◌<◌, ◌≤◌, Bool, true, false, cond, is_ok, ltb, List, [], ◌∷◌, length, Ok, Err, Result, sym, refl, ap, ◌∙◌, subst, inl, inr, arith}
+use Rattle.std.proofs.Common.{◌≡◌, ℕ, zero, suc, ◌+◌, ◌-◌, ◌*◌, ◌<◌, ◌≤◌, Bool, true, false, cond, ltb, ◌⊎◌, List, [], ◌∷◌, length, sym, refl, ap, ◌∙◌, subst, inl, inr, arith}
 use Rattle.presumption.specs.Answers.{Answers}
-use Rattle.run.proofs.Loads.{Light, weight_some, weight_most, load_falls, fit_first, light_urged, light_inquiring, first_is}
-use Rattle.run.specs.Answers.{refused, answered, number, answer_of}
-use Rattle.run.specs.Calls.{Reply, reply, refuse, moved, handed, heard, message_at, removed, coordinator_entry, deliver_call}
+use Rattle.run.proofs.Loads.{Light, weight_some, weight_most, load_falls, fit_first, light_urged, light_inquiring}
+use Rattle.run.specs.Calls.{coordinator_entry, deliver_call}
 use Rattle.run.specs.Runs.{Shown}
 use Rattle.run.specs.Settling.{Progress, Drained, progress, load, first_delivered, delivered, drained, urged, inquired, urging, inquiring, resolved, finished, all_finished, settled}
 use Rattle.run.specs.State.{State}
-use Rattle.run.specs.declared.refusals.Refusal.{Refusal}
 use Rattle.station.specs.declared.messages.Message.{Message}
-use Rattle.stations.specs.Stations.{power_at, subordinate_at}
+use Rattle.stations.specs.Stations.{subordinate_at}
 use Rattle.std.specs.List.{range_with_len}
-use Rattle.std.proofs.lemmas.Bool.{cases_lt, cond-true, cond-false}
+use Rattle.std.proofs.lemmas.Bool.{cases_lt, cond-true}
 use Rattle.std.proofs.lemmas.Bool.Decides.{nat_tests}
 
 pub nothing : {X : Type 0} (l : List X) → length l ≤ 0 → l ≡ []
@@ -42,13 +40,13 @@ adds_then : (f g : Progress → Progress) → Adds f → Adds g → Adds (λ x. 
 adds_then f g h i =
     record {
       adds = λ st n.
-        let x = f (progress st 0) in
-        let y = g (progress x.state 0) in
-        let same : n + x.deliveries + y.deliveries ≡ n + (x.deliveries + y.deliveries) = omega arith in
-        ap g (h.adds st n)
-        ∙ (i.adds x.state (n + x.deliveries)
-        ∙ (ap (progress y.state) same
-        ∙ sym (ap (λ (z : Progress). progress z.state (n + z.deliveries)) (i.adds x.state x.deliveries))));
+          let x = f (progress st 0) in
+          let y = g (progress x.state 0) in
+          let same : n + x.deliveries + y.deliveries ≡ n + (x.deliveries + y.deliveries) = omega arith in
+          ap g (h.adds st n)
+          ∙ (i.adds x.state (n + x.deliveries)
+          ∙ (ap (progress y.state) same
+          ∙ sym (ap (λ (z : Progress). progress z.state (n + z.deliveries)) (i.adds x.state x.deliveries))));
     }
 
 adds_cond : (b : State → Bool) (f g : Progress → Progress) → Adds f → Adds g → Adds (λ x. cond (b x.state) (f x) (g x))
@@ -83,7 +81,7 @@ module _ (π : Answers) where
   adds_finished r =
       record {
         adds = λ st n.
-          (adds_then (λ x. drained π (urging π r x)) (resolved π r (range_with_len 0 (length st.stations))) (adds_then (urging π r) (drained π) (adds_state (λ v. urged π (coordinator_entry r v) r v)) adds_drained) (adds_resolved r (range_with_len 0 (length st.stations)))).adds st n;
+            (adds_then (λ x. drained π (urging π r x)) (resolved π r (range_with_len 0 (length st.stations))) (adds_then (urging π r) (drained π) (adds_state (λ v. urged π (coordinator_entry r v) r v)) adds_drained) (adds_resolved r (range_with_len 0 (length st.stations)))).adds st n;
       }
 
   -- nothing waits: nothing is delivered
@@ -123,73 +121,35 @@ module _ (π : Answers) where
   unfolding drained
   drained_none x h = delivered_none (load 8 x.state.store.post) x (nothing x.state.store.post h)
 
--- a message handed over is answered by a number
-handed_answers : (π : Answers) (m : Message) (f k : ℕ) (st : State) → (n : ℕ) × ((handed π m f k st).answer ≡ answered n)
-handed_answers π m f k st = go (power_at st.stations m.receiver)
-  where
-    go : (b : Bool) → (n : ℕ) × ((cond b (moved π m.receiver m.revision (heard π st.stations m) f k st) (reply (answered 0) st)).answer ≡ answered n)
-    go true = (_, refl)
-    go false = (0, refl)
-
--- a delivery is refused where no message waits, and changes nothing then
-module _ (π : Answers) (st v : State) (f k : ℕ) (fit : st.fit ≡ true) where
-  delivery : Result ℕ Refusal → Type 0
-  delivery r = reply (answer_of r) v ≡ deliver_call π 0 false f k st
-
-  first_refused : length st.store.post ≤ 0 → deliver_call π 0 false f k st ≡ refuse 7 st
-  first_refused h = cond-true st.fit _ _ fit ∙ cond-false (ltb 0 (length st.store.post)) _ _ (grind (arith, nat_tests))
-
-  some_waits : (r : Result ℕ Refusal) → is_ok r ≡ true → reply (answer_of r) v ≡ deliver_call π 0 false f k st → 0 < length st.store.post
-  some_waits (Ok n) i e =
-      elim (cases_lt 0 (length st.store.post)) [
-        | inl p ↦ p
-        | inr p ↦ let z : answered n ≡ refused 7 = ap (λ (x : Reply). x.answer) (e ∙ first_refused p) in cc
-      ]
-  some_waits (Err x) i e = cc
-
-  none_waits : (r : Result ℕ Refusal) → is_ok r ≡ false → reply (answer_of r) v ≡ deliver_call π 0 false f k st → (length st.store.post ≤ 0) × (v ≡ st)
-  none_waits (Ok n) i e = cc
-  none_waits (Err x) i e =
-      elim (cases_lt 0 (length st.store.post)) [
-        | inl p ↦
-            let m = handed_answers π (message_at 0 st) f k (removed 0 st) in
-            let z : refused (number x) ≡ answered m.0 = ap (λ (y : Reply). y.answer) (e ∙ first_is π st f k fit p) ∙ m.1 in
-            cc
-        | inr p ↦ (p, ap (λ (y : Reply). y.state) (e ∙ first_refused p))
-      ]
-
 -- how far emptying the post has come, with so many deliveries made; the presumption stays
 pub record Draining {P : Type 0} (answers : P → Answers) (x y : Shown P) (n : ℕ) : Type 0 where
   pub fit : y.state.fit ≡ true
   pub left : drained (answers x.presumption) (progress y.state n) ≡ drained (answers x.presumption) (progress x.state 0)
   pub few : n + load 8 y.state.store.post ≤ load 8 x.state.store.post
+  pub bounded : (n ≡ 0) ⊎ (n + load 8 y.state.store.post ≤ 1152)
   pub presumes : y.presumption ≡ x.presumption
 
-module _ {P : Type 0} {answers : P → Answers} {x y : Shown P} {n : ℕ} (h : Draining answers x y n) (z : Shown P) (r : Result ℕ Refusal) (e : reply (answer_of r) z.state ≡ deliver_call (answers y.presumption) 0 false 255 0 y.state) (s : z.presumption ≡ y.presumption) where
+module _ {P : Type 0} {answers : P → Answers} {x y : Shown P} {n : ℕ} (h : Draining answers x y n) where
   -- one message more is delivered
-  pub draining_one : is_ok r ≡ true → Draining answers x z (n + 1)
-  draining_one i =
+  pub draining_one : 0 < length y.state.store.post → length y.state.store.post ≤ 64 → (z : Shown P) → z.state ≡ (deliver_call (answers y.presumption) 0 false 255 0 y.state).state → z.presumption ≡ y.presumption → Draining answers x z (n + 1)
+  draining_one p most z e s =
       let π = answers x.presumption in
-      let p = some_waits (answers y.presumption) y.state z.state 255 0 h.fit r i e in
-      let d : z.state ≡ (deliver_call π 0 false 255 0 y.state).state = ap (λ (a : Reply). a.state) e ∙ ap (λ (q : P). (deliver_call (answers q) 0 false 255 0 y.state).state) h.presumes in
+      let d : z.state ≡ (deliver_call π 0 false 255 0 y.state).state = e ∙ ap (λ (q : P). (deliver_call (answers q) 0 false 255 0 y.state).state) h.presumes in
+      let falls : load 8 z.state.store.post < load 8 y.state.store.post = omega (arith, ap (λ (v : State). load 8 v.store.post) d, load_falls π y.state 255 0 h.fit p) in
       record {
         fit = ap (λ (v : State). v.fit) d ∙ fit_first π y.state 255 0 h.fit p;
         left = ap (λ (v : State). drained π (progress v (n + 1))) d ∙ (drained_one π (progress y.state n) h.fit p ∙ h.left);
-        few = omega (arith, ap (λ (v : State). load 8 v.store.post) d, load_falls π y.state 255 0 h.fit p, h.few);
+        few = omega (arith, falls, h.few);
+        bounded = inr (elim h.bounded [ inl i ↦ omega (arith, falls, load_few y.state.store.post, most) | inr i ↦ omega (arith, falls) ]);
         presumes = s ∙ h.presumes;
       }
 
-  pub draining_falls : is_ok r ≡ true → load 8 z.state.store.post < load 8 y.state.store.post
-  draining_falls i =
-      let π = answers y.presumption in
-      let p = some_waits π y.state z.state 255 0 h.fit r i e in
-      omega (arith, ap (λ (a : Reply). load 8 a.state.store.post) e, load_falls π y.state 255 0 h.fit p)
+  pub draining_falls : 0 < length y.state.store.post → (z : State) → z ≡ (deliver_call (answers y.presumption) 0 false 255 0 y.state).state → load 8 z.store.post < load 8 y.state.store.post
+  draining_falls p z e = omega (arith, ap (λ (v : State). load 8 v.store.post) e, load_falls (answers y.presumption) y.state 255 0 h.fit p)
 
   -- none is left
-  pub draining_done : is_ok r ≡ false → progress z.state n ≡ drained (answers x.presumption) (progress x.state 0)
-  draining_done i =
-      let none = none_waits (answers y.presumption) y.state z.state 255 0 h.fit r i e in
-      ap (λ (v : State). progress v n) none.1 ∙ (sym (drained_none (answers x.presumption) (progress y.state n) none.0) ∙ h.left)
+  pub draining_done : length y.state.store.post ≤ 0 → progress y.state n ≡ drained (answers x.presumption) (progress x.state 0)
+  draining_done e = sym (drained_none (answers x.presumption) (progress y.state n) e) ∙ h.left
 
 -- a drained run, and a little posted since
 few_then : (n : ℕ) (st v w : State) → Drained st → Light n st v → w ≡ v → (w.fit ≡ true) × (load 8 w.store.post ≤ n)

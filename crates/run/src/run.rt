@@ -10,7 +10,7 @@ mod calls;
 pub mod settling;
 mod views;
 
-use actor::{Actor, Performed};
+use actor::{Actor, Fuse};
 use journal::MAX_STATIONS;
 use journal::calls::Journal;
 use presumption::Presumption;
@@ -42,7 +42,7 @@ impl<J: Journal, P: Presumption> Model for Run<J, P> {
       presumption = x.presumption;
       state = record {
         fit = x.fit;
-        store = store_of J.Journal.meaning x.actor;
+        store = store_of J.meaning x.actor;
         stations = x.stations;
       };
     } };
@@ -50,7 +50,7 @@ impl<J: Journal, P: Presumption> Model for Run<J, P> {
 
 // Is the station's section large enough and empty?
 fn is_ready<J: Journal>(journal: &J, station: u8) -> bool
-    ensures { result ≡ ready (section (J.Journal.meaning journal.now) station) }
+    ensures { result ≡ ready (section (J.meaning journal.now) station) }
 {
     journal.capacity(station) >= LEAST_CAPACITY
         && journal.stable_len(station) == 0
@@ -59,7 +59,7 @@ fn is_ready<J: Journal>(journal: &J, station: u8) -> bool
 
 // Is every section large enough and empty?
 fn are_ready<J: Journal>(journal: &J) -> bool
-    ensures { result ≡ all_ready (J.Journal.meaning journal.now) }
+    ensures { result ≡ all_ready (J.meaning journal.now) }
 {
     (0..journal.stations()).all(|station| is_ready(journal, station))
 }
@@ -71,7 +71,7 @@ impl<J: Journal, P: Presumption> Run<J, P> {
     where
         J: Drop,
         P: Drop,
-        ensures state { IfOk result (λ x. x.state ≡ fresh (J.Journal.meaning journal)) }
+        ensures state { IfOk result (λ x. x.state ≡ fresh (J.meaning journal)) }
         ensures presumes { IfOk result (λ x. x.presumption ≡ presumption) }
     {
         let count = journal.stations();
@@ -87,26 +87,24 @@ impl<J: Journal, P: Presumption> Run<J, P> {
     }
 
     // A step under a fuse, and then the entry changes; a power cut leaves the station dark. Answers the acts done.
-    fn take_step(
-        &mut self,
-        station: u8,
-        revision: u16,
-        step: Step,
-        turn: Turn,
-        fuse: u8,
-        kept: u8,
-    ) -> u8
-        ensures reply { reply (answered result) self.new.state ≡ moved (P.Presumption.answers self.old.presumption) station revision (move step turn) fuse kept self.old.state }
+    #[tactic(auto, unfolding(crate::specs::State::stepped, actor::specs::Store::answer_under_fuse, actor::specs::Store::done_under_fuse))]
+    fn take_step(&mut self, station: u8, revision: u16, step: Step, turn: Turn, fuse: Fuse) -> u8
+        ensures reply { reply (answered result) self.new.state
+            ≡ moved (P.answers self.old.presumption) station revision (move step turn) fuse.acts fuse.kept self.old.state }
         ensures presumes { self.new.presumption ≡ self.old.presumption }
     {
-        let Performed { acts, cut } = self
+        match self
             .actor
-            .step(&self.presumption, station, revision, step, fuse, kept);
-        if cut {
-            self.stations.cut(station);
-        } else {
-            self.stations.turn(station, revision, turn);
+            .step(&self.presumption, station, revision, step, fuse)
+        {
+            Ok(acts) => {
+                self.stations.turn(station, revision, turn);
+                acts
+            }
+            Err(cut) => {
+                self.stations.cut(station);
+                cut.after
+            }
         }
-        acts
     }
 }

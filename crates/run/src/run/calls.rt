@@ -8,7 +8,7 @@ ghost use Rattle.stations.specs.Stations.{rebuilt};
 
 use crate::refusals::Refusal;
 use crate::run::Run;
-use actor::Row;
+use actor::{Fuse, Row};
 use journal::calls::Journal;
 use presumption::Presumption;
 use station::coordinator::CoordinatorEntry;
@@ -90,20 +90,22 @@ impl<J: Journal, P: Presumption> Run<J, P> {
     }
 
     /// Opens the vote on a revision: PREPARE goes to its set. Answers the acts done.
-    pub fn close(&mut self, revision: u16, fuse: u8, kept: u8) -> Result<u8, Refusal>
-        ensures reply { reply (answer_of result) self.new.state ≡ close_call (P.Presumption.answers self.old.presumption) revision fuse kept self.old.state }
+    pub fn close(&mut self, revision: u16, fuse: Fuse) -> Result<u8, Refusal>
+        ensures reply { reply (answer_of result) self.new.state
+            ≡ close_call (P.answers self.old.presumption) revision fuse.acts fuse.kept self.old.state }
         ensures presumes { self.new.presumption ≡ self.old.presumption }
     {
         let station = self.coordinator_of(revision)?;
         let mut entry = self.stations.coordinator(station, revision);
         let step = entry.close().ok_or(Refusal::EntryForbids)?;
         let turn = Turn::Coordinator(entry);
-        Ok(self.take_step(station, revision, step, turn, fuse, kept))
+        Ok(self.take_step(station, revision, step, turn, fuse))
     }
 
     /// Gives a revision up: its set is told ABORT. Answers the acts done.
-    pub fn give_up(&mut self, revision: u16, fuse: u8, kept: u8) -> Result<u8, Refusal>
-        ensures reply { reply (answer_of result) self.new.state ≡ give_up_call (P.Presumption.answers self.old.presumption) revision fuse kept self.old.state }
+    pub fn give_up(&mut self, revision: u16, fuse: Fuse) -> Result<u8, Refusal>
+        ensures reply { reply (answer_of result) self.new.state
+            ≡ give_up_call (P.answers self.old.presumption) revision fuse.acts fuse.kept self.old.state }
         ensures presumes { self.new.presumption ≡ self.old.presumption }
     {
         let station = self.coordinator_of(revision)?;
@@ -112,43 +114,46 @@ impl<J: Journal, P: Presumption> Run<J, P> {
             .give_up(&self.presumption)
             .ok_or(Refusal::EntryForbids)?;
         let turn = Turn::Coordinator(entry);
-        Ok(self.take_step(station, revision, step, turn, fuse, kept))
+        Ok(self.take_step(station, revision, step, turn, fuse))
     }
 
     /// Tells the outcome again to those that have not acknowledged it. Answers the acts done.
-    pub fn chase(&mut self, revision: u16, fuse: u8, kept: u8) -> Result<u8, Refusal>
-        ensures reply { reply (answer_of result) self.new.state ≡ chase_call (P.Presumption.answers self.old.presumption) revision fuse kept self.old.state }
+    pub fn chase(&mut self, revision: u16, fuse: Fuse) -> Result<u8, Refusal>
+        ensures reply { reply (answer_of result) self.new.state
+            ≡ chase_call (P.answers self.old.presumption) revision fuse.acts fuse.kept self.old.state }
         ensures presumes { self.new.presumption ≡ self.old.presumption }
     {
         let station = self.coordinator_of(revision)?;
         let entry = self.stations.coordinator(station, revision);
         let step = entry.chase().ok_or(Refusal::EntryForbids)?;
         let turn = Turn::Coordinator(entry);
-        Ok(self.take_step(station, revision, step, turn, fuse, kept))
+        Ok(self.take_step(station, revision, step, turn, fuse))
     }
 
     /// A station drops a revision before the vote. Answers the acts done.
-    pub fn reject(&mut self, revision: u16, station: u8, fuse: u8, kept: u8) -> Result<u8, Refusal>
-        ensures reply { reply (answer_of result) self.new.state ≡ reject_call (P.Presumption.answers self.old.presumption) revision station fuse kept self.old.state }
+    pub fn reject(&mut self, revision: u16, station: u8, fuse: Fuse) -> Result<u8, Refusal>
+        ensures reply { reply (answer_of result) self.new.state
+            ≡ reject_call (P.answers self.old.presumption) revision station fuse.acts fuse.kept self.old.state }
         ensures presumes { self.new.presumption ≡ self.old.presumption }
     {
         self.check_subordinate(revision, station)?;
         let mut entry = self.stations.subordinate(station, revision);
         let step = entry.reject().ok_or(Refusal::EntryForbids)?;
         let turn = Turn::Subordinate(entry);
-        Ok(self.take_step(station, revision, step, turn, fuse, kept))
+        Ok(self.take_step(station, revision, step, turn, fuse))
     }
 
     /// A station in doubt asks the coordinator for the outcome. Answers the acts done.
-    pub fn inquire(&mut self, revision: u16, station: u8, fuse: u8, kept: u8) -> Result<u8, Refusal>
-        ensures reply { reply (answer_of result) self.new.state ≡ inquire_call (P.Presumption.answers self.old.presumption) revision station fuse kept self.old.state }
+    pub fn inquire(&mut self, revision: u16, station: u8, fuse: Fuse) -> Result<u8, Refusal>
+        ensures reply { reply (answer_of result) self.new.state
+            ≡ inquire_call (P.answers self.old.presumption) revision station fuse.acts fuse.kept self.old.state }
         ensures presumes { self.new.presumption ≡ self.old.presumption }
     {
         self.check_subordinate(revision, station)?;
         let entry = self.stations.subordinate(station, revision);
         let step = entry.inquire().ok_or(Refusal::EntryForbids)?;
         let turn = Turn::Subordinate(entry);
-        Ok(self.take_step(station, revision, step, turn, fuse, kept))
+        Ok(self.take_step(station, revision, step, turn, fuse))
     }
 
     // The message that waits at a place.
@@ -162,8 +167,10 @@ impl<J: Journal, P: Presumption> Run<J, P> {
 
     // What the receiver of a message has to do, and how its entry changes.
     fn hear(&self, message: Message) -> (Step, Turn)
-        ensures step { result.0 ≡ (heard (P.Presumption.answers self.now.presumption) self.now.state.stations message).step }
-        ensures turn { result.1 ≡ (heard (P.Presumption.answers self.now.presumption) self.now.state.stations message).next }
+        ensures step { result.0
+            ≡ (heard (P.answers self.now.presumption) self.now.state.stations message).step }
+        ensures turn { result.1
+            ≡ (heard (P.answers self.now.presumption) self.now.state.stations message).next }
     {
         let station = message.receiver;
         let revision = message.revision;
@@ -179,8 +186,9 @@ impl<J: Journal, P: Presumption> Run<J, P> {
     }
 
     /// Hands a waiting message to its receiver; with `copy` it waits on as well. Answers the acts done.
-    pub fn deliver(&mut self, place: usize, copy: bool, fuse: u8, kept: u8) -> Result<u8, Refusal>
-        ensures reply { reply (answer_of result) self.new.state ≡ deliver_call (P.Presumption.answers self.old.presumption) place copy fuse kept self.old.state }
+    pub fn deliver(&mut self, place: usize, copy: bool, fuse: Fuse) -> Result<u8, Refusal>
+        ensures reply { reply (answer_of result) self.new.state
+            ≡ deliver_call (P.answers self.old.presumption) place copy fuse.acts fuse.kept self.old.state }
         ensures presumes { self.new.presumption ≡ self.old.presumption }
     {
         let message = self.message_at(place)?;
@@ -191,7 +199,7 @@ impl<J: Journal, P: Presumption> Run<J, P> {
             return Ok(0);
         }
         let (step, turn) = self.hear(message);
-        Ok(self.take_step(message.receiver, message.revision, step, turn, fuse, kept))
+        Ok(self.take_step(message.receiver, message.revision, step, turn, fuse))
     }
 
     /// Loses a waiting message.
@@ -219,14 +227,16 @@ impl<J: Journal, P: Presumption> Run<J, P> {
 
     // The station as its stable records rebuild it.
     fn rebuild(&self, station: u8) -> Station
-        ensures { result ≡ rebuilt (P.Presumption.answers self.now.presumption) (section self.now.state.store.journal station).stable }
+        ensures { result
+            ≡ rebuilt (P.answers self.now.presumption) (section self.now.state.store.journal station).stable }
     {
         Station::rebuild(self.actor.journal(), &self.presumption, station)
     }
 
     /// The power returns at a station, and its stable records rebuild its entries.
     pub fn restart(&mut self, station: u8) -> Result<(), Refusal>
-        ensures reply { reply (plain_answer result) self.new.state ≡ restart_call (P.Presumption.answers self.old.presumption) station self.old.state }
+        ensures reply { reply (plain_answer result) self.new.state
+            ≡ restart_call (P.answers self.old.presumption) station self.old.state }
         ensures presumes { self.new.presumption ≡ self.old.presumption }
     {
         self.check_fit()?;

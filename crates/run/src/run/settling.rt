@@ -10,13 +10,11 @@ ghost use Rattle.stations.specs.Stations.{subordinate_at};
 
 use crate::refusals::Refusal;
 use crate::run::Run;
+use actor::Fuse;
 use journal::calls::Journal;
 use presumption::Presumption;
 use station::coordinator::CoordinatorEntry;
 use station::subordinate::SubordinateEntry;
-
-/// No step has as many acts, so this fuse never burns.
-pub const LONG_FUSE: u8 = 255;
 
 /// Whom a coordinator has not heard from: one of these stations, if there is one, and how many there are.
 #[derive(Clone, Copy, Debug, PartialEq, Eq)]
@@ -49,15 +47,17 @@ impl<J: Journal, P: Presumption> Run<J, P> {
 
     // Delivers the first message until none waits. Answers the deliveries made.
     fn drain(&mut self) -> usize
-        requires fit { self.old.state.fit ≡ true }
-        requires few { load most_stations self.old.state.store.post < 2 ^ 64 }
-        ensures progress { progress self.new.state result ≡ drained (P.Presumption.answers self.old.presumption) (progress self.old.state 0) }
+        requires { self.old.state.fit ≡ true }
+        ensures progress { progress self.new.state result
+            ≡ drained (P.answers self.old.presumption) (progress self.old.state 0) }
         ensures ready { Drained self.new.state }
         ensures few { result ≤ load most_stations self.old.state.store.post }
+        ensures bounded { result ≤ 1152 }
         ensures presumes { self.new.presumption ≡ self.old.presumption }
     {
         let mut deliveries = 0;
-        while self.deliver(0, false, LONG_FUSE, 0).is_ok() {
+        while self.actor.waiting() > 0 {
+            let _ = self.deliver(0, false, Fuse::LASTING);
             deliveries += 1;
         }
         deliveries
@@ -65,15 +65,16 @@ impl<J: Journal, P: Presumption> Run<J, P> {
 
     // The coordinator of a revision gives up if it is Collecting, and chases if it is Announcing.
     fn urge(&mut self, revision: u16)
-        ensures state { self.new.state ≡ urged (P.Presumption.answers self.old.presumption) (coordinator_entry revision self.old.state) revision self.old.state }
+        ensures state { self.new.state
+            ≡ urged (P.answers self.old.presumption) (coordinator_entry revision self.old.state) revision self.old.state }
         ensures presumes { self.new.presumption ≡ self.old.presumption }
     {
         match self.opened_entry(revision) {
             Ok(CoordinatorEntry::Collecting { .. }) => {
-                let _ = self.give_up(revision, LONG_FUSE, 0);
+                let _ = self.give_up(revision, Fuse::LASTING);
             }
             Ok(CoordinatorEntry::Announcing { .. }) => {
-                let _ = self.chase(revision, LONG_FUSE, 0);
+                let _ = self.chase(revision, Fuse::LASTING);
             }
             _ => {}
         }
@@ -81,11 +82,12 @@ impl<J: Journal, P: Presumption> Run<J, P> {
 
     // A station that is in doubt about a revision inquires.
     fn resolve(&mut self, revision: u16, station: u8)
-        ensures state { self.new.state ≡ inquired (P.Presumption.answers self.old.presumption) (subordinate_at self.old.state.stations station revision) revision station self.old.state }
+        ensures state { self.new.state
+            ≡ inquired (P.answers self.old.presumption) (subordinate_at self.old.state.stations station revision) revision station self.old.state }
         ensures presumes { self.new.presumption ≡ self.old.presumption }
     {
         if let SubordinateEntry::Prepared { .. } = self.stations.subordinate(station, revision) {
-            let _ = self.inquire(revision, station, LONG_FUSE, 0);
+            let _ = self.inquire(revision, station, Fuse::LASTING);
         }
     }
 
@@ -93,7 +95,8 @@ impl<J: Journal, P: Presumption> Run<J, P> {
     // Answers the deliveries made.
     fn finish(&mut self, revision: u16) -> usize
         requires { Drained self.old.state }
-        ensures progress { progress self.new.state result ≡ finished (P.Presumption.answers self.old.presumption) revision (progress self.old.state 0) }
+        ensures progress { progress self.new.state result
+            ≡ finished (P.answers self.old.presumption) revision (progress self.old.state 0) }
         ensures ready { Drained self.new.state }
         ensures few { result ≤ 1024 }
         ensures presumes { self.new.presumption ≡ self.old.presumption }
@@ -111,7 +114,8 @@ impl<J: Journal, P: Presumption> Run<J, P> {
     // Empties the post and finishes each revision, ascending. Answers the deliveries made.
     fn finish_all(&mut self) -> usize
         requires fit { self.old.state.fit ≡ true }
-        ensures progress { progress self.new.state result ≡ settled (P.Presumption.answers self.old.presumption) self.old.state }
+        ensures progress { progress self.new.state result
+            ≡ settled (P.answers self.old.presumption) self.old.state }
         ensures ready { Drained self.new.state }
         ensures presumes { self.new.presumption ≡ self.old.presumption }
     {
@@ -125,7 +129,8 @@ impl<J: Journal, P: Presumption> Run<J, P> {
 
     /// Empties the post and brings each revision to its end. Answers the number of deliveries.
     pub fn settle(&mut self) -> Result<usize, Refusal>
-        ensures reply { reply (answer_of result) self.new.state ≡ settle_call (P.Presumption.answers self.old.presumption) self.old.state }
+        ensures reply { reply (answer_of result) self.new.state
+            ≡ settle_call (P.answers self.old.presumption) self.old.state }
         ensures emptied { OnOk result (self.new.state.store.post ≡ []) }
         ensures presumes { self.new.presumption ≡ self.old.presumption }
     {

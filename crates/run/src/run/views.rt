@@ -64,7 +64,7 @@ impl<J: Journal, P: Presumption> Run<J, P> {
 
     /// The journal, to read.
     pub fn journal(&self) -> &J
-        ensures { J.Journal.meaning result.now ≡ self.now.state.store.journal }
+        ensures { J.meaning result.now ≡ self.now.state.store.journal }
     {
         self.actor.journal()
     }

@@ -1,12 +1,13 @@
-use Rattle.std.proofs.Common.{sym, ◌∙◌}
+use Rattle.std.proofs.Common.{ap, arith}
 use Rattle.run.proofs.Settles.{draining_one, draining_falls, draining_done}
+use Rattle.run.specs.Calls.{Reply}
 use Rattle.run.proofs.run.Run.drain.Goals as goal
 
-pub loop-deliveries-smaller : goal.loop-deliveries-smaller
-loop-deliveries-smaller g c = draining_falls c.loop-deliveries.invariant c.deliver.new.self c.deliver.result c.deliver.ensures.reply c.deliver.ensures.presumes (sym c.is_ok.ensures.value ∙ c.loop-deliveries-test.true)
+pub loop-self-smaller : goal.loop-self-smaller
+loop-self-smaller g c = draining_falls c.loop-self.invariant (grind arith) c.deliver.new.self.state (ap (λ (r : Reply). r.state) c.deliver.ensures.reply)
 
-pub loop-deliveries-preserved : goal.loop-deliveries-preserved
-loop-deliveries-preserved g c = draining_one c.loop-deliveries.invariant c.deliver.new.self c.deliver.result c.deliver.ensures.reply c.deliver.ensures.presumes (sym c.is_ok.ensures.value ∙ c.loop-deliveries-test.true)
+pub loop-self-preserved : goal.loop-self-preserved
+loop-self-preserved g c = draining_one c.loop-self.invariant (grind arith) (grind arith) c.deliver.new.self (ap (λ (r : Reply). r.state) c.deliver.ensures.reply) c.deliver.ensures.presumes
 
 pub returns-clause-progress : goal.returns-clause-progress
-returns-clause-progress g c = draining_done c.loop-deliveries.invariant c.deliver.new.self c.deliver.result c.deliver.ensures.reply c.deliver.ensures.presumes (sym c.is_ok.ensures.value ∙ c.loop-deliveries-test.false)
+returns-clause-progress g c = draining_done c.loop-self.invariant (grind arith)

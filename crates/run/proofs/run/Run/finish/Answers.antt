@@ -5,12 +5,12 @@ use Rattle.run.proofs.run.Run.finish.Goals as goal
 pub drain-deliveries-requires : goal.drain-deliveries-requires
 drain-deliveries-requires g c =
     let light = urged_light (g.P.Presumption.answers c.args.self.now.presumption) c.args.revision c.args.self.now.state c.urge.new.self.state c.requires c.urge.ensures.state in
-    record { fit = light.0; few = omega (arith, light.1) }
+    light.0
 
 pub drain-deliveries-requires-in-loop-station : goal.drain-deliveries-requires-in-loop-station
 drain-deliveries-requires-in-loop-station g c =
     let light = resolving_light c.loop-station.invariant c.resolve.new.self.state c.resolve.ensures.state in
-    record { fit = light.0; few = omega (arith, light.1) }
+    light.0
 
 pub overflow_add-deliveries : goal.overflow_add-deliveries
 overflow_add-deliveries g c =

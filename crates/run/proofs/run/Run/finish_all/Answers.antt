@@ -1,12 +1,6 @@
-use Rattle.std.proofs.Common.{length, ap, arith, rules}
-use Rattle.run.proofs.Settles.{load_few, finishing_more, finishing_done}
+use Rattle.std.proofs.Common.{rules}
+use Rattle.run.proofs.Settles.{finishing_more, finishing_done}
 use Rattle.run.proofs.run.Run.finish_all.Goals as goal
-
-pub drain-deliveries-requires-clause-few : goal.drain-deliveries-requires-clause-few
-drain-deliveries-requires-clause-few g c = omega (arith, load_few c.args.self.now.state.store.post, ap (λ x. length x.state.store.post) c.self.view_is, c.self.inside.actor.post.few, c.self.inside.actor.post.messages.ok.0)
-
-pub overflow_add-deliveries : goal.overflow_add-deliveries
-overflow_add-deliveries g c = omega (arith, load_few c.args.self.now.state.store.post, ap (λ x. length x.state.store.post) c.self.view_is, c.self.inside.actor.post.few, c.self.inside.actor.post.messages.ok.0, c.loop-revision.invariant.few)
 
 pub loop-revision-preserved : goal.loop-revision-preserved
 loop-revision-preserved g c =
