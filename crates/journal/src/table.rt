@@ -23,7 +23,7 @@ impl Model for StationRecords {
 
     ghost view = { λ s. split_at s.stable s.records.items };
 
-    ghost invariant = { λ s. (s.stable ≤ vec_len s.records) × (vec_len s.records ≤ table_records) × (vec_capacity s.records ≡ table_records) };
+    ghost invariant = { λ s. (s.stable ≤ vec_len s.records) × (vec_capacity s.records ≡ table_records) };
 }
 
 /// A journal in memory, with the same room for each of its stations.
