@@ -15,5 +15,4 @@ keep_split n k m xs e =
 pub returns : goal.returns
 returns c =
     let unforced = rw (← c.self.view_is) at c.unforced_len.ensures in
-    let end = rw unforced at c.min.ensures in
-    rw (c.truncate.ensures.items, ← c.self.view_is) (keep_split c.self.inside.stable c.args.kept _ (vec_items c.self.inside.records) (omega (arith, end)))
+    rw (c.truncate.ensures.items, ← c.self.view_is) (keep_split c.self.inside.stable c.args.kept _ (vec_items c.self.inside.records) (omega (arith, unforced)))
