@@ -1,23 +1,30 @@
 //! Looking bytes over before a journal is made of them.
-ghost use Rattle.std.specs.Prelude.{◌≡◌, ◌+◌, ◌<◌, ◌≤◌, length};
+ghost use Rattle.std.specs.Prelude.{◌≡◌, ◌+◌, ◌*◌, ◌<◌, ◌≤◌, length, is_some};
 ghost use Rattle.journal_bytes.specs.Layout.{counts_bytes, size_of, start_of};
+ghost use Rattle.journal.specs.Bytes.{decoded};
+ghost use Rattle.journal.specs.Limits.{record_bytes};
 ghost use Rattle.journal_bytes.specs.Opening.{all_decode, counted, accepted, all_accepted, served_in};
 
 use crate::layout::{COUNTS_BYTES, capacity_of, count_at, section_size, section_start};
+use journal::records::RECORD_BYTES;
 use journal::{MAX_STATIONS, decode};
+
+// Whether the bytes begin with a record.
+fn is_record(bytes: &[u8]) -> bool
+    ensures { result ≡ is_some (decoded bytes.now) }
+{
+    decode(bytes).is_ok()
+}
 
 // Whether the bytes begin with so many records.
 fn all_decode(bytes: &[u8], records: usize) -> bool
+    requires { record_bytes * records ≤ length bytes.now }
     ensures { result ≡ all_decode bytes.now records }
 {
-    let mut rest = bytes;
-    for _done in 0..records {
-        match decode(rest) {
-            Ok((_, next)) => rest = next,
-            Err(_) => return false,
-        }
-    }
-    true
+    bytes
+        .chunks_exact(RECORD_BYTES)
+        .take(records)
+        .all(is_record)
 }
 
 // How many records a section counts.
