@@ -5,9 +5,9 @@ use Rattle.journal_bytes.proofs.Putting.{Only, stable_other, stable_long, stable
 use Rattle.journal_bytes.proofs.Sections.{within_bytes, length_sections, section_there, sections_changed}
 use Rattle.journal_bytes.specs.Changes.{record_added, first_kept, bytes_written, bytes_kept, bytes_forced, bytes_cut}
 use Rattle.journal_bytes.specs.Layout.{counts_bytes, capacity_of, stable_count, unforced_count, record_start, fallback, record_in, records_in, section_in, size_of, start_of, stable_of, unforced_of, room_of, sections}
-use Rattle.journal.proofs.Laws.{put_in, changed_nothing, changed_same, written_is}
+use Rattle.journal.proofs.Laws.{changed_nothing, changed_same, written_is}
 use Rattle.journal.specs.Limits.{record_bytes}
-use Rattle.journal.specs.Meaning.{Section, section_of, held, changed, put, written, force_all, forced, keep_first, cut_to}
+use Rattle.journal.specs.Meaning.{Section, section_of, held, changed, put, put_in, written, force_all, forced, keep_first, cut_to}
 use Rattle.journal.specs.declared.records.Record.{Record}
 use Rattle.std.proofs.lemmas.List.FromFn.{length-map-range_with_len, map-range_with_len_more}
 use Rattle.std.proofs.lemmas.Bool.{cases_lt, lt-ltb, le-ltb, cond-true, cond-false}

@@ -4,7 +4,7 @@ use Rattle.journal_bytes.proofs.Accepting.{AcceptedAt, accepted_parts, accepted_
 use Rattle.journal_bytes.proofs.Changing.{all_records, held_in, added_only, kept_only}
 use Rattle.journal_bytes.proofs.Putting.{Only, stable_first, stable_second, stable_records, added_first, added_second, added_there, added_before, stable_long, added_long}
 use Rattle.journal_bytes.proofs.Sections.{within_bytes, section_there}
-use Rattle.journal_bytes.specs.Changes.{record_added, first_kept, bytes_written, bytes_kept, bytes_forced, bytes_cut}
+use Rattle.journal_bytes.specs.Changes.{record_added, first_kept, bytes_written, bytes_kept}
 use Rattle.journal_bytes.specs.Laws.{Exact, Sound}
 use Rattle.journal_bytes.specs.Layout.{most_bytes, counts_bytes, capacity_of, stable_count, unforced_count, record_start, fallback, record_in, records_in, section_in, size_of, start_of, stable_of, unforced_of, room_of, sections}
 use Rattle.journal_bytes.specs.Opening.{counted, accepted, all_accepted, served_in}
@@ -84,7 +84,7 @@ module _ (bs : List ℕ) (n s : ℕ) (h : served_in bs n ≡ n) where
   abbrev counts : ℕ
   counts = stable_of bs n s + unforced_of bs n s
 
-  written_served : (x : Record) → served_in (bytes_written x bs n s) n ≡ n
+  pub written_served : (x : Record) → served_in (bytes_written x bs n s) n ≡ n
   written_served x =
       ⊎_elim
       (λ l. ⊎_elim
@@ -97,7 +97,7 @@ module _ (bs : List ℕ) (n s : ℕ) (h : served_in bs n ≡ n) where
       (λ past. ap (λ cs. served_in cs n) (cond-false _ _ _ (le-ltb s n past)) ∙ h)
       (cases_lt s n)
 
-  kept_served : (m : ℕ) → m ≤ counts → served_in (bytes_kept m bs n s) n ≡ n
+  pub kept_served : (m : ℕ) → m ≤ counts → served_in (bytes_kept m bs n s) n ≡ n
   kept_served m few =
       ⊎_elim
       (λ l. ⊎_elim
@@ -133,7 +133,7 @@ exact_in bs start size s =
           ∙ some_is (record_from bs (record_start start i)) (s.each i (omega arith))));
     }
 
-sound_from : (bs : List ℕ) (n : ℕ) → served_in bs n ≡ n → Sound bs n
+pub sound_from : (bs : List ℕ) (n : ℕ) → served_in bs n ≡ n → Sound bs n
 sound_from bs n h = record {
   again = h;
   same = ap (sections bs) h;
@@ -142,24 +142,6 @@ sound_from bs n h = record {
       subst (Exact bs (start_of bs n s)) (sym (section_there bs n s l)) (exact_in bs (start_of bs n s) (size_of bs n) (accepted_parts bs (start_of bs n s) (size_of bs n) wide (within_bytes bs n s l) (each_accepted bs (size_of bs n) 0 n s p.1 (omega arith) (omega arith))));
 }
 
--- The bytes of a journal that was just made.
-pub opened_few : (bs : List ℕ) (n : ℕ) → min (served_in bs n) most_stations ≡ served_in bs n
-opened_few bs n =
-    elim (cases_Bool (leb n most_stations && all_accepted bs (size_of bs n) 0 n)) [
-      | inl e ↦ let l : n ≤ most_stations = leb-true _ _ (and_parts _ _ e).0 in let is : served_in bs n ≡ n = cond-true _ _ _ e in omega arith
-      | inr e ↦ let is : served_in bs n ≡ 0 = cond-false _ _ _ e in omega arith
-    ]
-
-pub opened_sound : (bs : List ℕ) (n : ℕ) → Sound bs (served_in bs n)
-opened_sound bs n = sound_from bs (served_in bs n) (⊎_elim (λ e. ap (served_in bs) e) (λ e. ap (served_in bs) e ∙ sym e) (served_cases bs n))
-
--- And after each call.
-module _ (bs : List ℕ) (n s : ℕ) where
-  pub written_sound : (x : Record) → Sound bs n → Sound (bytes_written x bs n s) n
-  written_sound x h = sound_from (bytes_written x bs n s) n (written_served bs n s h.again x)
-
-  pub forced_sound : Sound bs n → Sound (bytes_forced bs n s) n
-  forced_sound h = sound_from (bytes_forced bs n s) n (kept_served bs n s h.again (counts bs n s h.again) (omega arith))
-
-  pub cut_sound : (k : ℕ) → Sound bs n → Sound (bytes_cut k bs n s) n
-  cut_sound k h = sound_from (bytes_cut k bs n s) n (kept_served bs n s h.again (stable_of bs n s + min k (unforced_of bs n s)) (omega arith))
+-- A journal made again serves as many.
+pub served_again : (bs : List ℕ) (n : ℕ) → served_in bs (served_in bs n) ≡ served_in bs n
+served_again bs n = ⊎_elim (λ e. ap (served_in bs) e) (λ e. ap (served_in bs) e ∙ sym e) (served_cases bs n)
