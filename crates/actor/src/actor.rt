@@ -4,7 +4,7 @@ ghost use Rattle.std.specs.List.{slice_get};
 ghost use Rattle.actor.specs.Log.{new_number};
 ghost use Rattle.actor.specs.Post.{most_waiting};
 ghost use Rattle.actor.specs.Store.{store, with_row, less, journal_cut, done_under_fuse, answer_under_fuse};
-ghost use Rattle.actor.specs.Actors.{store_of};
+ghost use Rattle.actor.specs.Actors.{journal_of, store_of};
 ghost use Rattle.station.specs.Acts.{acts};
 ghost use Rattle.station.specs.Limits.{most_revisions};
 
@@ -43,7 +43,7 @@ impl<J: Journal> Actor<J> {
 
     /// The journal.
     pub fn journal(&self) -> &J
-        ensures { result.now ≡ self.now.journal }
+        ensures { result.now ≡ journal_of self.now }
     {
         &self.journal
     }

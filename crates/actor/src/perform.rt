@@ -66,13 +66,11 @@ impl<J: Journal, P: Presumption> Acting<'_, J, P> {
     }
 
     // Logs an abort as the presumption says.
-    fn log_abort(&mut self, set: StationSet) -> Result<(), PowerCut>
+    fn log_abort(&mut self, line: Record) -> Result<(), PowerCut>
         ensures { Changes J.Journal.meaning
-            (performed (acts.logged (P.Presumption.answers self.old.presumption.now).abort_logging
-            (acts.line Kind.Abort self.old.revision set.bits)))
+            (performed (acts.logged (P.Presumption.answers self.old.presumption.now).abort_logging line))
             self.old result self.new }
     {
-        let line = self.line(Kind::Abort, u8::from(set));
         match self.presumption.abort_logging() {
             Logging::NotAtAll => Ok(()),
             Logging::Unforced => self.write(line),
@@ -87,7 +85,8 @@ impl<J: Journal, P: Presumption> Acting<'_, J, P> {
             self.old.station self.old.revision set told))
             self.old result self.new }
     {
-        self.log_abort(set)?;
+        let line = self.line(Kind::Abort, u8::from(set));
+        self.log_abort(line)?;
         self.post_each(MessageKind::Abort, told)?;
         if self.presumption.acknowledges(Outcome::Abort) && told.is_empty() {
             self.end()?;
