@@ -5,9 +5,8 @@ ghost use Rattle.std.specs.Prelude.{◌≡◌, true, false, not, ◌&&◌, lengt
 ghost use Rattle.std.specs.List.{range_with_len};
 ghost use Rattle.journal.specs.Meaning.{section};
 ghost use Rattle.stations.specs.Stations.{blank, rebuilt, power_at, entries_at, coordinator_at, subordinate_at, turn_station, turn_entry, all_power, activated};
-ghost use Rattle.station.specs.Sets.{members, empty, below, holds};
+ghost use Rattle.station.specs.Sets.{members, empty, below};
 
-use journal::MAX_STATIONS;
 use journal::calls::Journal;
 use presumption::Presumption;
 use station::MAX_REVISIONS;
@@ -23,7 +22,7 @@ use std::marker::Model;
 const REVISIONS: usize = MAX_REVISIONS as usize;
 
 // What a station remembers of one revision.
-#[derive(Clone, Copy)]
+#[derive(Clone, Copy, Debug, PartialEq, Eq)]
 struct Entries {
     coordinator: CoordinatorEntry,
     subordinate: SubordinateEntry,
@@ -35,21 +34,21 @@ const NO_ENTRIES: Entries = Entries {
 };
 
 /// One station: whether it has power, and its entries by revision.
-#[derive(Clone, Copy)]
+#[derive(Clone, Copy, Debug, PartialEq, Eq)]
 pub struct Station {
     power: bool,
     entries: [Entries; REVISIONS],
 }
 
 /// An entry that changes.
-#[derive(Clone, Copy)]
+#[derive(Clone, Copy, Debug, PartialEq, Eq)]
 pub enum Turn {
     Coordinator(CoordinatorEntry),
     Subordinate(SubordinateEntry),
 }
 
 /// All stations of a run, by their numbers.
-#[derive(Drop)]
+#[derive(Debug, Drop)]
 pub struct Stations {
     rows: Vec<Station>,
 }
@@ -67,6 +66,7 @@ impl Model for Stations {
 
 impl Station {
     /// A station without entries.
+    #[tactic(auto, unfolding(crate::specs::Stations::blank))]
     pub fn new(power: bool) -> Station
         ensures { result ≡ blank power }
     {
@@ -144,7 +144,7 @@ impl Stations {
     pub fn have_power(&self, set: StationSet) -> bool
         ensures { result ≡ all_power self.now (members set) }
     {
-        (0..MAX_STATIONS).all(|station| !set.contains(station) || self.power(station))
+        set.into_iter().all(|station| self.power(station))
     }
 
     /// Have all stations power?
@@ -189,14 +189,13 @@ impl Stations {
     }
 
     /// All stations of the set become Active for the revision.
+    #[tactic(auto, unfolding(crate::specs::Stations::activated))]
     pub fn activate(&mut self, set: StationSet, revision: u16, coordinator: u8)
         ensures { self.new ≡ activated revision coordinator (members set) self.old }
     {
         let active = Turn::Subordinate(SubordinateEntry::Active { coordinator });
-        for station in 0..MAX_STATIONS {
-            if set.contains(station) {
-                self.turn(station, revision, active);
-            }
+        for station in set {
+            self.turn(station, revision, active);
         }
     }
 
