@@ -28,6 +28,7 @@ struct Entries {
     subordinate: SubordinateEntry,
 }
 
+// Neither entry.
 const NO_ENTRIES: Entries = Entries {
     coordinator: CoordinatorEntry::None,
     subordinate: SubordinateEntry::None,
@@ -80,6 +81,7 @@ impl Station {
     fn turn(&mut self, revision: u16, turn: Turn)
         ensures { self.new ≡ turn_station revision turn self.old }
     {
+        // A slice's `get_mut` says nothing of what the slice ends as, so the test comes first.
         let revision = usize::from(revision);
         if revision < self.entries.len() {
             match turn {
@@ -96,6 +98,7 @@ impl Station {
         Station {
             power: true,
             entries: array::from_fn(|revision| {
+                // An array counts by `usize`, a record by `u16`: below `REVISIONS` no bit is lost.
                 let revision = revision as u16;
                 Entries {
                     coordinator: recover_coordinator(journal, presumption, station, revision),
@@ -119,6 +122,7 @@ impl Stations {
     pub fn len(&self) -> u8
         ensures { result ≡ length self.now }
     {
+        // The invariant keeps the number within a `u8`.
         self.rows.len() as u8
     }
 
