@@ -2,12 +2,12 @@
 mod scene;
 mod telling;
 
-use crate::script::{COORDINATOR, Call, Cue, LONG_FUSE, Power, REVISION, Scenario};
-use crate::words::Answer;
+use crate::script::{COORDINATOR, Call, Cue, Fuse, REVISION, Scenario, set_of};
+use crate::words::Done;
 use journal::calls::Journal;
 use presumption::Presumption;
+use run::refusals::Refusal;
 use run::run::Run;
-use station::sets::StationSet;
 use std::io;
 
 /// More deliveries than a post can call for: 18 for each of the 64 messages that can wait.
@@ -98,31 +98,24 @@ impl<'a, J: Journal, P: Presumption> Rehearsal<'a, J, P> {
             if self.run.waiting() == 0 {
                 break;
             }
-            self.make(Call::Deliver(Power::Lasts))?;
+            self.make(Call::Deliver(Fuse::LASTING))?;
         }
         Ok(())
     }
 
     // Makes a call. Power fails only in a delivery.
-    fn answer(&mut self, call: Call) -> Answer {
+    fn answer(&mut self, call: Call) -> Result<Done, Refusal> {
         let run = &mut self.run;
+        let Fuse { acts, kept } = Fuse::LASTING;
         match call {
-            Call::Open { set } => {
-                Answer::of_open(run.open(COORDINATOR, StationSet::from_bits(set)))
-            }
-            Call::Close => Answer::of_step(run.close(REVISION, LONG_FUSE, 0)),
-            Call::GiveUp => Answer::of_step(run.give_up(REVISION, LONG_FUSE, 0)),
-            Call::Reject { station } => {
-                Answer::of_step(run.reject(REVISION, station, LONG_FUSE, 0))
-            }
-            Call::Inquire { station } => {
-                Answer::of_step(run.inquire(REVISION, station, LONG_FUSE, 0))
-            }
-            Call::Deliver(power) => {
-                Answer::of_step(run.deliver(0, false, power.fuse(), power.kept()))
-            }
-            Call::Cut { station, kept } => Answer::of_power(run.cut(station, kept)),
-            Call::Restart { station } => Answer::of_power(run.restart(station)),
+            Call::Open { stations } => run.open(COORDINATOR, set_of(stations)).map(Done::Revision),
+            Call::Close => run.close(REVISION, acts, kept).map(Done::Acts),
+            Call::GiveUp => run.give_up(REVISION, acts, kept).map(Done::Acts),
+            Call::Reject { station } => run.reject(REVISION, station, acts, kept).map(Done::Acts),
+            Call::Inquire { station } => run.inquire(REVISION, station, acts, kept).map(Done::Acts),
+            Call::Deliver(fuse) => run.deliver(0, false, fuse.acts, fuse.kept).map(Done::Acts),
+            Call::Cut { station, kept } => run.cut(station, kept).map(|()| Done::Nothing),
+            Call::Restart { station } => run.restart(station).map(|()| Done::Nothing),
         }
     }
 }

@@ -2,29 +2,29 @@
 use crate::rehearsal::Rehearsal;
 use crate::rehearsal::scene::Scene;
 use crate::script::{Call, REVISION};
-use crate::words::{Answer, Places, Shown};
+use crate::words::{Done, Places, Shown};
 use journal::calls::Journal;
 use presumption::Presumption;
+use run::refusals::Refusal;
 use std::io;
 
 impl<J: Journal, P: Presumption> Rehearsal<'_, J, P> {
     /// The call, with the message that it delivers.
     pub fn tell_call(&self, call: Call) -> io::Result<()> {
         match (call, self.run.message(0)) {
-            (Call::Deliver(power), Some(message)) => {
-                let message = Shown(message);
-                print!(self.rt; "deliver {message}{power}: ")
+            (Call::Deliver(fuse), Some(message)) => {
+                print!(self.rt; "deliver {}{}: ", Shown(message), Shown(fuse))
             }
             _ => print!(self.rt; "{call}: "),
         }
     }
 
     /// The answer, and what changed since.
-    pub fn tell_answer(&self, answer: Answer, before: Scene) -> io::Result<()> {
+    pub fn tell_answer(&self, answer: Result<Done, Refusal>, before: Scene) -> io::Result<()> {
         let after = self.scene(before.station);
         let mark = before.mark(after);
         let unforced = before.unforced(after);
-        print!(self.rt; "{answer}{mark}{unforced}")?;
+        print!(self.rt; "{}{mark}{unforced}", Shown(answer))?;
         self.tell_stable(before, after)?;
         self.tell_posted(before, after)?;
         self.rt.println(before.outage(after))
