@@ -27,14 +27,14 @@ pub struct Fate {
     dropped: u8,
 }
 
-/// Plays a scenario in a fresh run over a journal. Answers what became of its revision.
+/// Plays a scenario in a fresh run over a journal. Answers what became of its revision, if it was opened.
 pub fn play<J: Journal + Drop, P: Presumption + Drop>(
     rt: &HostRuntime,
     scenario: &Scenario,
     name: &str,
     journal: J,
     presumption: P,
-) -> io::Result<Fate> {
+) -> io::Result<Option<Fate>> {
     let mut rehearsal = Rehearsal::new(rt, journal, presumption)?;
     rehearsal.play(scenario, name)?;
     Ok(rehearsal.fate())
@@ -61,18 +61,12 @@ impl<'a, J: Journal, P: Presumption> Rehearsal<'a, J, P> {
         self.show_revision()
     }
 
-    // What became of the revision so far.
-    fn fate(&self) -> Fate {
-        match self.run.as_run(REVISION) {
-            Some(row) => Fate {
-                installed: row.installed.bits(),
-                dropped: row.dropped.bits(),
-            },
-            None => Fate {
-                installed: 0,
-                dropped: 0,
-            },
-        }
+    // What became of the revision so far, if it was opened.
+    fn fate(&self) -> Option<Fate> {
+        self.run.as_run(REVISION).map(|row| Fate {
+            installed: row.installed.bits(),
+            dropped: row.dropped.bits(),
+        })
     }
 
     // Does what the cue says.
@@ -92,7 +86,8 @@ impl<'a, J: Journal, P: Presumption> Rehearsal<'a, J, P> {
         self.tell_answer(answer, before)
     }
 
-    // Delivers the first message, and so on until none waits.
+    // Delivers the first message, and so on until none waits. The deliveries are counted, since only of a fit run is it
+    // known that they empty the post, and a journal may make a run that is not fit.
     fn deliver_all(&mut self) -> io::Result<()> {
         for _ in 0..MOST_DELIVERIES {
             if self.run.waiting() == 0 {
