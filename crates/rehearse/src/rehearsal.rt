@@ -15,8 +15,8 @@ const MOST_DELIVERIES: u16 = 64 * 18;
 
 /// A run, and where it is told.
 #[derive(Drop)]
-pub struct Rehearsal<'a, J, P> {
-    rt: &'a HostRuntime,
+pub struct Rehearsal<'a, R, J, P> {
+    rt: &'a R,
     run: Run<J, P>,
 }
 
@@ -28,8 +28,8 @@ pub struct Fate {
 }
 
 /// Plays a scenario in a fresh run over a journal. Answers what became of its revision, if it was opened.
-pub fn play<J: Journal + Drop, P: Presumption + Drop>(
-    rt: &HostRuntime,
+pub fn play<R: Print + AllocGlobal, J: Journal + Drop, P: Presumption + Drop>(
+    rt: &R,
     scenario: &Scenario,
     name: &str,
     journal: J,
@@ -40,10 +40,11 @@ pub fn play<J: Journal + Drop, P: Presumption + Drop>(
     Ok(rehearsal.fate())
 }
 
-impl<'a, J: Journal, P: Presumption> Rehearsal<'a, J, P> {
+impl<'a, R: Print, J: Journal, P: Presumption> Rehearsal<'a, R, J, P> {
     // A rehearsal of a fresh run over a journal.
-    fn new(rt: &'a HostRuntime, journal: J, presumption: P) -> io::Result<Rehearsal<'a, J, P>>
+    fn new(rt: &'a R, journal: J, presumption: P) -> io::Result<Rehearsal<'a, R, J, P>>
     where
+        R: AllocGlobal,
         J: Drop,
         P: Drop,
     {

@@ -79,7 +79,7 @@ impl Change {
     }
 }
 
-impl<J: Journal, P: Presumption> Rehearsal<'_, J, P> {
+impl<R: Print, J: Journal, P: Presumption> Rehearsal<'_, R, J, P> {
     /// The scene now, at a station.
     pub fn scene(&self, station: u8) -> Scene {
         let row = self.run.as_run(REVISION);

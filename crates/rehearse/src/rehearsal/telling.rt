@@ -8,7 +8,7 @@ use presumption::Presumption;
 use run::refusals::Refusal;
 use std::io;
 
-impl<J: Journal, P: Presumption> Rehearsal<'_, J, P> {
+impl<R: Print, J: Journal, P: Presumption> Rehearsal<'_, R, J, P> {
     /// The call, with the message that it delivers.
     pub fn tell_call(&self, call: Call) -> io::Result<()> {
         match (call, self.run.message(0)) {
