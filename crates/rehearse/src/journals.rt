@@ -32,26 +32,16 @@ fn bytes_needed() -> usize
 // Over a table.
 fn over_table(rt: &(impl Print + AllocGlobal)) -> io::Result<Option<Fate>> {
     let table = Table::new(rt.alloc(), STATIONS)?;
-    play(
-        rt,
-        &OUTCOME_LOST,
-        "presumed commit over a table",
-        table,
-        PresumedCommit,
-    )
+    let name = "presumed commit over a table";
+    play(rt, &OUTCOME_LOST, name, table, PresumedCommit)
 }
 
 // Over bytes, some of which are then shown.
 fn over_bytes(rt: &(impl Print + AllocGlobal)) -> io::Result<Option<Fate>> {
     let mut lent = [0u8; THREE_SECTIONS];
     let journal = ByteJournal::new(&mut lent, STATIONS);
-    let fate = play(
-        rt,
-        &OUTCOME_LOST,
-        "presumed commit over bytes",
-        journal,
-        PresumedCommit,
-    )?;
+    let name = "presumed commit over bytes";
+    let fate = play(rt, &OUTCOME_LOST, name, journal, PresumedCommit)?;
     print!(rt; "the first bytes of station 1:")?;
     for byte in &lent[SECTION..SHOWN] {
         print!(rt; " {byte:02x}")?;

@@ -51,6 +51,7 @@ pub enum Cue {
 }
 
 /// A run to rehearse.
+#[derive(Clone, Copy)]
 pub struct Scenario {
     pub title: &'static str,
     pub cues: &'static [Cue],

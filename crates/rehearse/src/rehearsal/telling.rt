@@ -31,12 +31,11 @@ impl<R: Print, J: Journal, P: Presumption> Rehearsal<'_, R, J, P> {
 
     // The records that became stable.
     fn tell_stable(&self, change: Change) -> io::Result<()> {
-        let station = change.after.station;
-        let journal = self.run.journal();
-        for line in change
+        let (journal, station) = (self.run.journal(), change.after.station);
+        let lines = change
             .stable()
-            .filter_map(|place| journal.read(station, place))
-        {
+            .filter_map(|place| journal.read(station, place));
+        for line in lines {
             print!(self.rt; "; {} becomes stable", Shown(line))?;
         }
         Ok(())
