@@ -30,28 +30,18 @@ fn bytes_needed() -> usize
 }
 
 // Over a table.
-fn over_table(rt: &HostRuntime) -> io::Result<Fate> {
+fn over_table(rt: &(impl Print + AllocGlobal)) -> io::Result<Option<Fate>> {
     let table = Table::new(rt.alloc(), STATIONS)?;
-    play(
-        rt,
-        &OUTCOME_LOST,
-        "presumed commit over a table",
-        table,
-        PresumedCommit,
-    )
+    let name = "presumed commit over a table";
+    play(rt, &OUTCOME_LOST, name, table, PresumedCommit)
 }
 
 // Over bytes, some of which are then shown.
-fn over_bytes(rt: &HostRuntime) -> io::Result<Fate> {
+fn over_bytes(rt: &(impl Print + AllocGlobal)) -> io::Result<Option<Fate>> {
     let mut lent = [0u8; THREE_SECTIONS];
     let journal = ByteJournal::new(&mut lent, STATIONS);
-    let fate = play(
-        rt,
-        &OUTCOME_LOST,
-        "presumed commit over bytes",
-        journal,
-        PresumedCommit,
-    )?;
+    let name = "presumed commit over bytes";
+    let fate = play(rt, &OUTCOME_LOST, name, journal, PresumedCommit)?;
     print!(rt; "the first bytes of station 1:")?;
     for byte in &lent[SECTION..SHOWN] {
         print!(rt; " {byte:02x}")?;
@@ -61,7 +51,7 @@ fn over_bytes(rt: &HostRuntime) -> io::Result<Fate> {
 }
 
 // Over a table for station 0, joined to bytes for the others.
-fn over_join(rt: &HostRuntime) -> io::Result<Fate> {
+fn over_join(rt: &(impl Print + AllocGlobal)) -> io::Result<Option<Fate>> {
     let mut lent = [0u8; TWO_SECTIONS];
     let table = Table::new(rt.alloc(), 1)?;
     let journal = Join::new(table, ByteJournal::new(&mut lent, STATIONS - 1));
@@ -70,7 +60,7 @@ fn over_join(rt: &HostRuntime) -> io::Result<Fate> {
 }
 
 /// Plays one scenario over each journal, and says whether they agree.
-pub fn compare(rt: &HostRuntime) -> io::Result<()> {
+pub fn compare(rt: &(impl Print + AllocGlobal)) -> io::Result<()> {
     let needed = bytes_needed();
     println!(rt; "\neight stations over bytes need {needed} of them")?;
     let table = over_table(rt)?;

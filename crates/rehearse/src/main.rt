@@ -24,7 +24,7 @@ fuse F, kept K: in a step of more acts, power fails after F, and K unforced reco
 Not told: a mark that was there before, and a record that is lost in the call that wrote it.";
 
 // A scenario under both presumptions, over tables.
-fn play_both(rt: &HostRuntime, scenario: &Scenario) -> io::Result<()> {
+fn play_both(rt: &(impl Print + AllocGlobal), scenario: &Scenario) -> io::Result<()> {
     let table = Table::new(rt.alloc(), STATIONS)?;
     let _ = play(rt, scenario, "presumed abort", table, PresumedAbort)?;
     let table = Table::new(rt.alloc(), STATIONS)?;
@@ -33,7 +33,7 @@ fn play_both(rt: &HostRuntime, scenario: &Scenario) -> io::Result<()> {
 }
 
 // The legend, each scenario under both presumptions, and then one of them over each journal.
-fn rehearse(rt: &HostRuntime) -> io::Result<()> {
+fn rehearse(rt: &(impl Print + AllocGlobal)) -> io::Result<()> {
     rt.println(LEGEND)?;
     for scenario in &scenarios::ALL {
         play_both(rt, scenario)?;

@@ -2,12 +2,12 @@
 mod scene;
 mod telling;
 
-use crate::script::{COORDINATOR, Call, Cue, LONG_FUSE, Power, REVISION, Scenario};
-use crate::words::Answer;
+use crate::script::{COORDINATOR, Call, Cue, Fuse, REVISION, Scenario, set_of};
+use crate::words::Done;
 use journal::calls::Journal;
 use presumption::Presumption;
+use run::refusals::Refusal;
 use run::run::Run;
-use station::sets::StationSet;
 use std::io;
 
 /// More deliveries than a post can call for: 18 for each of the 64 messages that can wait.
@@ -15,8 +15,8 @@ const MOST_DELIVERIES: u16 = 64 * 18;
 
 /// A run, and where it is told.
 #[derive(Drop)]
-pub struct Rehearsal<'a, J, P> {
-    rt: &'a HostRuntime,
+pub struct Rehearsal<'a, R, J, P> {
+    rt: &'a R,
     run: Run<J, P>,
 }
 
@@ -27,23 +27,24 @@ pub struct Fate {
     dropped: u8,
 }
 
-/// Plays a scenario in a fresh run over a journal. Answers what became of its revision.
-pub fn play<J: Journal + Drop, P: Presumption + Drop>(
-    rt: &HostRuntime,
+/// Plays a scenario in a fresh run over a journal. Answers what became of its revision, if it was opened.
+pub fn play<R: Print + AllocGlobal, J: Journal + Drop, P: Presumption + Drop>(
+    rt: &R,
     scenario: &Scenario,
     name: &str,
     journal: J,
     presumption: P,
-) -> io::Result<Fate> {
+) -> io::Result<Option<Fate>> {
     let mut rehearsal = Rehearsal::new(rt, journal, presumption)?;
     rehearsal.play(scenario, name)?;
     Ok(rehearsal.fate())
 }
 
-impl<'a, J: Journal, P: Presumption> Rehearsal<'a, J, P> {
+impl<'a, R: Print, J: Journal, P: Presumption> Rehearsal<'a, R, J, P> {
     // A rehearsal of a fresh run over a journal.
-    fn new(rt: &'a HostRuntime, journal: J, presumption: P) -> io::Result<Rehearsal<'a, J, P>>
+    fn new(rt: &'a R, journal: J, presumption: P) -> io::Result<Rehearsal<'a, R, J, P>>
     where
+        R: AllocGlobal,
         J: Drop,
         P: Drop,
     {
@@ -61,18 +62,12 @@ impl<'a, J: Journal, P: Presumption> Rehearsal<'a, J, P> {
         self.show_revision()
     }
 
-    // What became of the revision so far.
-    fn fate(&self) -> Fate {
-        match self.run.as_run(REVISION) {
-            Some(row) => Fate {
-                installed: row.installed.bits(),
-                dropped: row.dropped.bits(),
-            },
-            None => Fate {
-                installed: 0,
-                dropped: 0,
-            },
-        }
+    // What became of the revision so far, if it was opened.
+    fn fate(&self) -> Option<Fate> {
+        self.run.as_run(REVISION).map(|row| Fate {
+            installed: row.installed.bits(),
+            dropped: row.dropped.bits(),
+        })
     }
 
     // Does what the cue says.
@@ -92,37 +87,31 @@ impl<'a, J: Journal, P: Presumption> Rehearsal<'a, J, P> {
         self.tell_answer(answer, before)
     }
 
-    // Delivers the first message, and so on until none waits.
+    // Delivers the first message, and so on until none waits. The deliveries are counted, since only of a fit run is it
+    // known that they empty the post, and a journal may make a run that is not fit.
     fn deliver_all(&mut self) -> io::Result<()> {
         for _ in 0..MOST_DELIVERIES {
             if self.run.waiting() == 0 {
                 break;
             }
-            self.make(Call::Deliver(Power::Lasts))?;
+            self.make(Call::Deliver(Fuse::LASTING))?;
         }
         Ok(())
     }
 
     // Makes a call. Power fails only in a delivery.
-    fn answer(&mut self, call: Call) -> Answer {
+    fn answer(&mut self, call: Call) -> Result<Done, Refusal> {
         let run = &mut self.run;
+        let Fuse { acts, kept } = Fuse::LASTING;
         match call {
-            Call::Open { set } => {
-                Answer::of_open(run.open(COORDINATOR, StationSet::from_bits(set)))
-            }
-            Call::Close => Answer::of_step(run.close(REVISION, LONG_FUSE, 0)),
-            Call::GiveUp => Answer::of_step(run.give_up(REVISION, LONG_FUSE, 0)),
-            Call::Reject { station } => {
-                Answer::of_step(run.reject(REVISION, station, LONG_FUSE, 0))
-            }
-            Call::Inquire { station } => {
-                Answer::of_step(run.inquire(REVISION, station, LONG_FUSE, 0))
-            }
-            Call::Deliver(power) => {
-                Answer::of_step(run.deliver(0, false, power.fuse(), power.kept()))
-            }
-            Call::Cut { station, kept } => Answer::of_power(run.cut(station, kept)),
-            Call::Restart { station } => Answer::of_power(run.restart(station)),
+            Call::Open { stations } => run.open(COORDINATOR, set_of(stations)).map(Done::Revision),
+            Call::Close => run.close(REVISION, acts, kept).map(Done::Acts),
+            Call::GiveUp => run.give_up(REVISION, acts, kept).map(Done::Acts),
+            Call::Reject { station } => run.reject(REVISION, station, acts, kept).map(Done::Acts),
+            Call::Inquire { station } => run.inquire(REVISION, station, acts, kept).map(Done::Acts),
+            Call::Deliver(fuse) => run.deliver(0, false, fuse.acts, fuse.kept).map(Done::Acts),
+            Call::Cut { station, kept } => run.cut(station, kept).map(|()| Done::Nothing),
+            Call::Restart { station } => run.restart(station).map(|()| Done::Nothing),
         }
     }
 }

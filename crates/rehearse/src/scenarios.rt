@@ -1,8 +1,7 @@
 //! The scenarios that are rehearsed.
-use crate::script::{Call, Cue, Power, Scenario};
+use crate::script::{Call, Cue, Fuse, Scenario};
 
-// The revision goes to the stations 1 and 2.
-const OPEN: Cue = Cue::Make(Call::Open { set: 0b110 });
+const OPEN: Cue = Cue::Make(Call::Open { stations: &[1, 2] });
 
 const CLOSE: Cue = Cue::Make(Call::Close);
 
@@ -38,7 +37,7 @@ const FULL_VOTE: Scenario = Scenario {
     cues: &[
         OPEN,
         CLOSE,
-        Cue::Make(Call::Deliver(Power::Fails { after: 3, kept: 0 })),
+        Cue::Make(Call::Deliver(Fuse { acts: 3, kept: 0 })),
         Cue::Show { station: 1 },
         Cue::DeliverAll,
     ],
@@ -50,7 +49,7 @@ const VOTE_LOST: Scenario = Scenario {
     cues: &[
         OPEN,
         CLOSE,
-        Cue::Make(Call::Deliver(Power::Fails { after: 1, kept: 0 })),
+        Cue::Make(Call::Deliver(Fuse { acts: 1, kept: 0 })),
         RESTART_1,
         Cue::Show { station: 1 },
         Cue::DeliverAll,
@@ -66,7 +65,7 @@ const VOTE_KEPT: Scenario = Scenario {
     cues: &[
         OPEN,
         CLOSE,
-        Cue::Make(Call::Deliver(Power::Fails { after: 1, kept: 1 })),
+        Cue::Make(Call::Deliver(Fuse { acts: 1, kept: 1 })),
         RESTART_1,
         Cue::Show { station: 1 },
         Cue::DeliverAll,
@@ -101,9 +100,9 @@ pub const OUTCOME_LOST: Scenario = Scenario {
 const REFUSED: Scenario = Scenario {
     title: "refused calls",
     cues: &[
-        Cue::Make(Call::Open { set: 0 }),
+        Cue::Make(Call::Open { stations: &[] }),
         CLOSE,
-        Cue::Make(Call::Deliver(Power::Lasts)),
+        Cue::Make(Call::Deliver(Fuse::LASTING)),
         OPEN,
         CLOSE,
         CLOSE,

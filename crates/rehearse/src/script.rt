@@ -1,4 +1,5 @@
 //! Scripts: a scenario is a list of cues, and most cues are a call of the engine.
+use station::sets::StationSet;
 
 /// Each run has so many stations.
 pub const STATIONS: u8 = 3;
@@ -9,27 +10,32 @@ pub const COORDINATOR: u8 = 0;
 /// The only revision of each scenario.
 pub const REVISION: u16 = 0;
 
-/// No step has as many acts, so this fuse never burns.
-pub const LONG_FUSE: u8 = u8::MAX;
-
-/// Whether the power lasts through a step.
-#[derive(Clone, Copy)]
-pub enum Power {
-    Lasts,
-    /// In a step of more acts it fails after so many, and so many unforced records are kept.
-    Fails { after: u8, kept: u8 },
+/// In a step of more acts the power fails after so many, and so many unforced records are kept.
+#[derive(Clone, Copy, Debug, PartialEq, Eq)]
+pub struct Fuse {
+    pub acts: u8,
+    pub kept: u8,
 }
 
-/// A call of the engine. Sets are given by their bits.
+impl Fuse {
+    /// No step has as many acts, so this fuse never burns.
+    pub const LASTING: Fuse = Fuse {
+        acts: u8::MAX,
+        kept: 0,
+    };
+}
+
+/// A call of the engine.
 #[derive(Clone, Copy)]
 pub enum Call {
-    Open { set: u8 },
+    /// The revision goes to these stations.
+    Open { stations: &'static [u8] },
     Close,
     GiveUp,
     Reject { station: u8 },
     Inquire { station: u8 },
     /// The first message that waits.
-    Deliver(Power),
+    Deliver(Fuse),
     Cut { station: u8, kept: u8 },
     Restart { station: u8 },
 }
@@ -45,25 +51,16 @@ pub enum Cue {
 }
 
 /// A run to rehearse.
+#[derive(Clone, Copy)]
 pub struct Scenario {
     pub title: &'static str,
     pub cues: &'static [Cue],
 }
 
-impl Power {
-    /// How many acts there is power for.
-    pub fn fuse(self) -> u8 {
-        match self {
-            Power::Lasts => LONG_FUSE,
-            Power::Fails { after, .. } => after,
-        }
-    }
-
-    /// How many unforced records are kept if it fails.
-    pub fn kept(self) -> u8 {
-        match self {
-            Power::Lasts => 0,
-            Power::Fails { kept, .. } => kept,
-        }
-    }
+/// The set of these stations. No constant can hold one.
+pub fn set_of(stations: &[u8]) -> StationSet {
+    stations.iter().fold(
+        StationSet::from_bits(0),
+        |set, station| set.insert(*station),
+    )
 }

@@ -1,5 +1,5 @@
 //! The words in which a rehearsal is told.
-use crate::script::{Call, Power};
+use crate::script::{Call, Fuse, set_of};
 use journal::MAX_STATIONS;
 use journal::records::{Kind, Record};
 use presumption::outcome::Outcome;
@@ -14,128 +14,102 @@ use std::fmt;
 #[derive(Clone, Copy)]
 pub struct Shown<T>(pub T);
 
-/// Where a revision is marked.
+/// What a call did that was not refused.
 #[derive(Clone, Copy)]
-pub struct Places(pub StationSet);
-
-/// What a call answers.
-#[derive(Clone, Copy)]
-pub enum Answer {
+pub enum Done {
+    /// It opened this revision.
     Revision(u16),
+    /// It did so many acts of a step.
     Acts(u8),
-    Done,
-    Refused(Refusal),
-}
-
-impl Answer {
-    /// The answer of `open`.
-    pub fn of_open(answer: Result<u16, Refusal>) -> Answer {
-        match answer {
-            Ok(revision) => Answer::Revision(revision),
-            Err(refusal) => Answer::Refused(refusal),
-        }
-    }
-
-    /// The answer of a call that takes a step.
-    pub fn of_step(answer: Result<u8, Refusal>) -> Answer {
-        match answer {
-            Ok(acts) => Answer::Acts(acts),
-            Err(refusal) => Answer::Refused(refusal),
-        }
-    }
-
-    /// The answer of a call that only refuses or not.
-    pub fn of_power(answer: Result<(), Refusal>) -> Answer {
-        match answer {
-            Ok(()) => Answer::Done,
-            Err(refusal) => Answer::Refused(refusal),
-        }
-    }
-}
-
-// The word for an outcome.
-fn outcome_word(outcome: Outcome) -> &'static str {
-    match outcome {
-        Outcome::Commit => "commit",
-        Outcome::Abort => "abort",
-    }
-}
-
-// The word for a kind of message.
-fn message_word(kind: MessageKind) -> &'static str {
-    match kind {
-        MessageKind::Prepare => "PREPARE",
-        MessageKind::Yes => "YES",
-        MessageKind::No => "NO",
-        MessageKind::Commit => "COMMIT",
-        MessageKind::Abort => "ABORT",
-        MessageKind::Ack => "ACK",
-        MessageKind::Inquiry => "INQUIRY",
-    }
-}
-
-// The name of a call.
-fn call_word(call: Call) -> &'static str {
-    match call {
-        Call::Open { .. } => "open",
-        Call::Close => "close",
-        Call::GiveUp => "give_up",
-        Call::Reject { .. } => "reject",
-        Call::Inquire { .. } => "inquire",
-        Call::Deliver(_) => "deliver",
-        Call::Cut { .. } => "cut",
-        Call::Restart { .. } => "restart",
-    }
-}
-
-impl fmt::Display for Power {
-    fn fmt<W: fmt::Write>(&self, f: &mut fmt::Formatter<W>) -> fmt::Result {
-        match *self {
-            Power::Lasts => Ok(()),
-            Power::Fails { after, kept } => write!(f, ", fuse {after}, kept {kept}"),
-        }
-    }
+    /// There is nothing to tell.
+    Nothing,
 }
 
 impl fmt::Display for Call {
     fn fmt<W: fmt::Write>(&self, f: &mut fmt::Formatter<W>) -> fmt::Result {
-        let word = call_word(*self);
         match *self {
-            Call::Open { set } => {
-                let set = Shown(StationSet::from_bits(set));
-                write!(f, "{word} {set}")
-            }
-            Call::Close | Call::GiveUp | Call::Deliver(_) => f.write_str(word),
-            Call::Reject { station } | Call::Inquire { station } | Call::Restart { station } => {
-                write!(f, "{word} at {station}")
-            }
-            Call::Cut { station, kept } => write!(f, "{word} at {station}, kept {kept}"),
+            Call::Open { stations } => write!(f, "open {}", Shown(set_of(stations))),
+            Call::Close => f.write_str("close"),
+            Call::GiveUp => f.write_str("give_up"),
+            Call::Reject { station } => write!(f, "reject at {station}"),
+            Call::Inquire { station } => write!(f, "inquire at {station}"),
+            Call::Deliver(_) => f.write_str("deliver"),
+            Call::Cut { station, kept } => write!(f, "cut at {station}, kept {kept}"),
+            Call::Restart { station } => write!(f, "restart at {station}"),
         }
     }
 }
 
-impl fmt::Display for Answer {
+impl fmt::Display for Shown<Fuse> {
     fn fmt<W: fmt::Write>(&self, f: &mut fmt::Formatter<W>) -> fmt::Result {
-        match *self {
-            Answer::Revision(revision) => write!(f, "revision {revision}"),
-            Answer::Acts(1) => f.write_str("1 act"),
-            Answer::Acts(acts) => write!(f, "{acts} acts"),
-            Answer::Done => f.write_str("done"),
-            Answer::Refused(refusal) => {
-                let number = refusal.number();
-                write!(f, "refused with {number}")
-            }
+        if self.0 == Fuse::LASTING {
+            return Ok(());
+        }
+        write!(f, ", fuse {}, kept {}", self.0.acts, self.0.kept)
+    }
+}
+
+impl fmt::Display for Shown<Result<Done, Refusal>> {
+    fn fmt<W: fmt::Write>(&self, f: &mut fmt::Formatter<W>) -> fmt::Result {
+        match self.0 {
+            Ok(Done::Revision(revision)) => write!(f, "revision {revision}"),
+            Ok(Done::Acts(1)) => f.write_str("1 act"),
+            Ok(Done::Acts(acts)) => write!(f, "{acts} acts"),
+            Ok(Done::Nothing) => f.write_str("done"),
+            Err(refusal) => write!(f, "refused with {}", refusal.number()),
         }
     }
 }
 
-impl fmt::Display for Places {
+impl fmt::Display for Shown<Outcome> {
     fn fmt<W: fmt::Write>(&self, f: &mut fmt::Formatter<W>) -> fmt::Result {
-        if self.0.is_empty() {
-            return f.write_str("nowhere");
+        f.write_str(match self.0 {
+            Outcome::Commit => "commit",
+            Outcome::Abort => "abort",
+        })
+    }
+}
+
+impl fmt::Display for Shown<MessageKind> {
+    fn fmt<W: fmt::Write>(&self, f: &mut fmt::Formatter<W>) -> fmt::Result {
+        f.write_str(match self.0 {
+            MessageKind::Prepare => "PREPARE",
+            MessageKind::Yes => "YES",
+            MessageKind::No => "NO",
+            MessageKind::Commit => "COMMIT",
+            MessageKind::Abort => "ABORT",
+            MessageKind::Ack => "ACK",
+            MessageKind::Inquiry => "INQUIRY",
+        })
+    }
+}
+
+impl fmt::Display for Shown<Message> {
+    fn fmt<W: fmt::Write>(&self, f: &mut fmt::Formatter<W>) -> fmt::Result {
+        let Message {
+            kind,
+            sender,
+            receiver,
+            ..
+        } = self.0;
+        let kind = Shown(kind);
+        write!(f, "{kind} {sender} -> {receiver}")
+    }
+}
+
+impl fmt::Display for Shown<Record> {
+    fn fmt<W: fmt::Write>(&self, f: &mut fmt::Formatter<W>) -> fmt::Result {
+        let Record { kind, argument, .. } = self.0;
+        let letter = kind.letter() as char;
+        match kind {
+            Kind::Opening | Kind::Commit | Kind::Abort => {
+                write!(f, "{letter} for {}", Shown(StationSet::from_bits(argument)))
+            }
+            Kind::End => write!(f, "{letter}"),
+            Kind::Prepared | Kind::Committed | Kind::Aborted => {
+                write!(f, "{letter} under {argument}")
+            }
         }
-        let stations = Shown(self.0);
-        write!(f, "at {stations}")
     }
 }
 
@@ -153,32 +127,6 @@ impl fmt::Display for Shown<StationSet> {
     }
 }
 
-impl fmt::Display for Shown<Message> {
-    fn fmt<W: fmt::Write>(&self, f: &mut fmt::Formatter<W>) -> fmt::Result {
-        let word = message_word(self.0.kind);
-        let sender = self.0.sender;
-        let receiver = self.0.receiver;
-        write!(f, "{word} {sender} -> {receiver}")
-    }
-}
-
-impl fmt::Display for Shown<Record> {
-    fn fmt<W: fmt::Write>(&self, f: &mut fmt::Formatter<W>) -> fmt::Result {
-        let letter = self.0.kind.letter() as char;
-        let argument = self.0.argument;
-        match self.0.kind {
-            Kind::Opening | Kind::Commit | Kind::Abort => {
-                let set = Shown(StationSet::from_bits(argument));
-                write!(f, "{letter} for {set}")
-            }
-            Kind::End => write!(f, "{letter}"),
-            Kind::Prepared | Kind::Committed | Kind::Aborted => {
-                write!(f, "{letter} under {argument}")
-            }
-        }
-    }
-}
-
 impl fmt::Display for Shown<SubordinateEntry> {
     fn fmt<W: fmt::Write>(&self, f: &mut fmt::Formatter<W>) -> fmt::Result {
         match self.0 {
@@ -193,20 +141,28 @@ impl fmt::Display for Shown<CoordinatorEntry> {
     fn fmt<W: fmt::Write>(&self, f: &mut fmt::Formatter<W>) -> fmt::Result {
         match self.0 {
             CoordinatorEntry::None => f.write_str("none"),
-            CoordinatorEntry::Open { set } => {
-                let set = Shown(set);
-                write!(f, "Open for {set}")
-            }
+            CoordinatorEntry::Open { set } => write!(f, "Open for {}", Shown(set)),
             CoordinatorEntry::Collecting { set, voters } => {
-                let set = Shown(set);
-                let voters = Shown(voters);
+                let (set, voters) = (Shown(set), Shown(voters));
                 write!(f, "Collecting from {set}, YES from {voters}")
             }
             CoordinatorEntry::Announcing { outcome, awaited } => {
-                let word = outcome_word(outcome);
-                let awaited = Shown(awaited);
-                write!(f, "Announcing {word}, ACK awaited from {awaited}")
+                let (outcome, awaited) = (Shown(outcome), Shown(awaited));
+                write!(f, "Announcing {outcome}, ACK awaited from {awaited}")
             }
         }
+    }
+}
+
+/// Where a revision is marked.
+#[derive(Clone, Copy)]
+pub struct Places(pub StationSet);
+
+impl fmt::Display for Places {
+    fn fmt<W: fmt::Write>(&self, f: &mut fmt::Formatter<W>) -> fmt::Result {
+        if self.0.is_empty() {
+            return f.write_str("nowhere");
+        }
+        write!(f, "at {}", Shown(self.0))
     }
 }

@@ -1,21 +1,29 @@
-//! What a call can change, seen before it and after it.
+//! What a call changes: the scene before it and after it.
 ghost use Rattle.std.specs.Prelude.{◌≡◌, ◌-◌};
 
 use crate::rehearsal::Rehearsal;
 use crate::script::{COORDINATOR, Call, REVISION};
 use journal::calls::Journal;
 use presumption::Presumption;
+use std::ops::Range;
 
 /// One station and the post.
 #[derive(Clone, Copy)]
 pub struct Scene {
     pub station: u8,
-    pub power: bool,
-    pub installed: bool,
-    pub dropped: bool,
-    pub stable: usize,
-    pub unforced: usize,
-    pub waiting: usize,
+    power: bool,
+    installed: bool,
+    dropped: bool,
+    stable: usize,
+    unforced: usize,
+    waiting: usize,
+}
+
+/// Two scenes at one station, and a call between them.
+#[derive(Clone, Copy)]
+pub struct Change {
+    pub before: Scene,
+    pub after: Scene,
 }
 
 impl Scene {
@@ -28,54 +36,58 @@ impl Scene {
             ..self
         }
     }
+}
 
-    /// The mark that was made since.
-    pub fn mark(self, after: Scene) -> &'static str {
-        if after.installed && !self.installed {
+impl Change {
+    /// The mark that was made.
+    pub fn mark(self) -> &'static str {
+        if self.after.installed && !self.before.installed {
             "; marks installed"
-        } else if after.dropped && !self.dropped {
+        } else if self.after.dropped && !self.before.dropped {
             "; marks dropped"
         } else {
             ""
         }
     }
 
-    /// The record that was left unforced since: under both presumptions no step leaves two.
-    pub fn unforced(self, after: Scene) -> &'static str {
-        if after.unforced > self.unforced {
+    /// The record that was left unforced: under both presumptions no step leaves two.
+    pub fn unforced(self) -> &'static str {
+        if self.after.unforced > self.before.unforced {
             "; leaves a record unforced"
         } else {
             ""
         }
     }
 
-    /// The outage that began or ended since.
-    pub fn outage(self, after: Scene) -> &'static str {
-        if self.power && !after.power {
-            "; power fails"
-        } else if after.power && !self.power {
-            "; power returns"
-        } else {
-            ""
+    /// The outage that began or ended.
+    pub fn outage(self) -> &'static str {
+        match (self.before.power, self.after.power) {
+            (true, false) => "; power fails",
+            (false, true) => "; power returns",
+            _ => "",
         }
+    }
+
+    /// The places of the records that became stable.
+    pub fn stable(self) -> Range<usize> {
+        self.before.stable..self.after.stable
+    }
+
+    /// The places of the messages that were posted.
+    pub fn posted(self) -> Range<usize> {
+        self.before.waiting..self.after.waiting
     }
 }
 
-impl<J: Journal, P: Presumption> Rehearsal<'_, J, P> {
+impl<R: Print, J: Journal, P: Presumption> Rehearsal<'_, R, J, P> {
     /// The scene now, at a station.
     pub fn scene(&self, station: u8) -> Scene {
-        let (installed, dropped) = match self.run.as_run(REVISION) {
-            Some(row) => (
-                row.installed.contains(station),
-                row.dropped.contains(station),
-            ),
-            None => (false, false),
-        };
+        let row = self.run.as_run(REVISION);
         Scene {
             station,
             power: self.run.power(station),
-            installed,
-            dropped,
+            installed: row.is_some_and(|row| row.installed.contains(station)),
+            dropped: row.is_some_and(|row| row.dropped.contains(station)),
             stable: self.run.journal().stable_len(station),
             unforced: self.run.journal().unforced_len(station),
             waiting: self.run.waiting(),
@@ -86,8 +98,10 @@ impl<J: Journal, P: Presumption> Rehearsal<'_, J, P> {
     pub fn scene_before(&self, call: Call) -> Scene {
         match call {
             Call::Open { .. } | Call::Close | Call::GiveUp => self.scene(COORDINATOR),
-            Call::Reject { station } | Call::Inquire { station } => self.scene(station),
-            Call::Cut { station, .. } | Call::Restart { station } => self.scene(station),
+            Call::Reject { station }
+            | Call::Inquire { station }
+            | Call::Cut { station, .. }
+            | Call::Restart { station } => self.scene(station),
             Call::Deliver(_) => match self.run.message(0) {
                 Some(message) => self.scene(message.receiver).delivered(),
                 None => self.scene(COORDINATOR),

@@ -1,55 +1,52 @@
 //! The lines of a rehearsal.
 use crate::rehearsal::Rehearsal;
-use crate::rehearsal::scene::Scene;
+use crate::rehearsal::scene::{Change, Scene};
 use crate::script::{Call, REVISION};
-use crate::words::{Answer, Places, Shown};
+use crate::words::{Done, Places, Shown};
 use journal::calls::Journal;
 use presumption::Presumption;
+use run::refusals::Refusal;
 use std::io;
 
-impl<J: Journal, P: Presumption> Rehearsal<'_, J, P> {
+impl<R: Print, J: Journal, P: Presumption> Rehearsal<'_, R, J, P> {
     /// The call, with the message that it delivers.
     pub fn tell_call(&self, call: Call) -> io::Result<()> {
         match (call, self.run.message(0)) {
-            (Call::Deliver(power), Some(message)) => {
-                let message = Shown(message);
-                print!(self.rt; "deliver {message}{power}: ")
+            (Call::Deliver(fuse), Some(message)) => {
+                print!(self.rt; "deliver {}{}: ", Shown(message), Shown(fuse))
             }
             _ => print!(self.rt; "{call}: "),
         }
     }
 
-    /// The answer, and what changed since.
-    pub fn tell_answer(&self, answer: Answer, before: Scene) -> io::Result<()> {
+    /// The answer, and what the call changed.
+    pub fn tell_answer(&self, answer: Result<Done, Refusal>, before: Scene) -> io::Result<()> {
         let after = self.scene(before.station);
-        let mark = before.mark(after);
-        let unforced = before.unforced(after);
-        print!(self.rt; "{answer}{mark}{unforced}")?;
-        self.tell_stable(before, after)?;
-        self.tell_posted(before, after)?;
-        self.rt.println(before.outage(after))
+        let change = Change { before, after };
+        print!(self.rt; "{}{}{}", Shown(answer), change.mark(), change.unforced())?;
+        self.tell_stable(change)?;
+        self.tell_posted(change)?;
+        self.rt.println(change.outage())
     }
 
     // The records that became stable.
-    fn tell_stable(&self, before: Scene, after: Scene) -> io::Result<()> {
-        for place in before.stable..after.stable {
-            if let Some(line) = self.run.journal().read(after.station, place) {
-                let line = Shown(line);
-                print!(self.rt; "; {line} becomes stable")?;
-            }
+    fn tell_stable(&self, change: Change) -> io::Result<()> {
+        let (journal, station) = (self.run.journal(), change.after.station);
+        let lines = change
+            .stable()
+            .filter_map(|place| journal.read(station, place));
+        for line in lines {
+            print!(self.rt; "; {} becomes stable", Shown(line))?;
         }
         Ok(())
     }
 
     // The messages that were posted.
-    fn tell_posted(&self, before: Scene, after: Scene) -> io::Result<()> {
-        for place in before.waiting..after.waiting {
-            if let Some(message) = self.run.message(place) {
-                let first = place == before.waiting;
-                let separator = if first { "; posts " } else { ", " };
-                let message = Shown(message);
-                print!(self.rt; "{separator}{message}")?;
-            }
+    fn tell_posted(&self, change: Change) -> io::Result<()> {
+        let posted = change.posted().filter_map(|place| self.run.message(place));
+        for (nth, message) in posted.enumerate() {
+            let separator = if nth == 0 { "; posts " } else { ", " };
+            print!(self.rt; "{separator}{}", Shown(message))?;
         }
         Ok(())
     }
