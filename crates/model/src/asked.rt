@@ -1,115 +1,101 @@
-//! The questions before each call, by their numbers.
+//! The questions before each call, each by the refusal that it gives when it is answered no.
 
 use super::sets::Set;
-use super::whole::Model;
-use super::words::{Call, Holding, Side, Verb};
+use super::whole::{Model, REVISIONS};
+use super::words::{Call, Entry, Refusal, Side, Verb};
 
-/// Which questions a call asks, in order.
-fn asks(verb: Verb) -> &'static [u8] {
+/// What a call asks, in order.
+fn asks(verb: Verb) -> &'static [Refusal] {
     match verb {
-        Verb::Open => &[1, 2, 4, 5],
-        Verb::Close => &[1, 3, 4, 6],
-        Verb::GiveUp => &[1, 3, 4, 6],
-        Verb::Reject => &[1, 2, 3, 4, 6],
-        Verb::Chase => &[1, 3, 4, 6],
-        Verb::Inquire => &[1, 2, 3, 4, 6],
-        Verb::Deliver => &[1, 7],
-        Verb::Lose => &[1, 7],
-        Verb::Cut => &[1, 2, 4],
-        Verb::Restart => &[1, 2, 8],
-        Verb::Settle => &[1, 4],
-        Verb::Awaited => &[1, 3],
+        Verb::Open => &[
+            Refusal::Unfit,
+            Refusal::NoSuchStation,
+            Refusal::NoPower,
+            Refusal::TooManyRevisions,
+        ],
+        Verb::Close | Verb::GiveUp | Verb::Chase => &[
+            Refusal::Unfit,
+            Refusal::NotOpened,
+            Refusal::NoPower,
+            Refusal::EntryForbids,
+        ],
+        Verb::Reject | Verb::Inquire => &[
+            Refusal::Unfit,
+            Refusal::NoSuchStation,
+            Refusal::NotOpened,
+            Refusal::NoPower,
+            Refusal::EntryForbids,
+        ],
+        Verb::Deliver | Verb::Lose => &[Refusal::Unfit, Refusal::NoMessage],
+        Verb::Cut => &[Refusal::Unfit, Refusal::NoSuchStation, Refusal::NoPower],
+        Verb::Restart => &[Refusal::Unfit, Refusal::NoSuchStation, Refusal::NotDark],
+        Verb::Settle => &[Refusal::Unfit, Refusal::NoPower],
+        Verb::Awaited => &[Refusal::Unfit, Refusal::NotOpened],
     }
 }
 
 impl Model {
-    /// The number of the first question that is answered no.
-    pub(crate) fn refusal(&self, call: &Call) -> Option<u8> {
-        for number in asks(call.verb) {
-            if !self.answers_yes(*number, call) {
-                return Some(*number);
-            }
+    /// Asks the questions of a call, up to the first that is answered no.
+    pub(crate) fn ask(&self, call: &Call) -> Result<(), Refusal> {
+        match asks(call.verb)
+            .iter()
+            .find(|refusal| !self.answers_yes(**refusal, call))
+        {
+            Some(refusal) => Err(*refusal),
+            None => Ok(()),
         }
-        None
     }
 
-    /// The answer to one question.
-    fn answers_yes(&self, number: u8, call: &Call) -> bool {
-        match number {
-            1 => self.fit,
-            2 => self.all_there(call),
-            3 => usize::from(call.revision) < self.rows.len(),
-            4 => self.all_lit(call),
-            5 => self.rows.len() < 32,
-            6 => self.allowed(call),
-            7 => call.place < self.post.len(),
-            8 => self.is_dark(call.station),
-            _ => true,
+    /// The answer to the question that a refusal stands for.
+    fn answers_yes(&self, refusal: Refusal, call: &Call) -> bool {
+        match refusal {
+            Refusal::Unfit => self.fit,
+            Refusal::NoSuchStation => self.all_there(call),
+            Refusal::NotOpened => usize::from(call.revision) < self.rows.len(),
+            Refusal::NoPower => !self.needed(call).meets(self.dark),
+            Refusal::TooManyRevisions => self.rows.len() < usize::from(REVISIONS),
+            Refusal::EntryForbids => self.allowed(call),
+            Refusal::NoMessage => call.place < self.post.len(),
+            Refusal::NotDark => self.dark.holds(call.station),
+            // A journal asks these itself.
+            Refusal::NotServed | Refusal::Full | Refusal::NotARecord => true,
         }
     }
 
     /// Question 2: the stations that the call names.
     fn all_there(&self, call: &Call) -> bool {
-        if call.station >= self.log.served {
-            return false;
-        }
-        if call.verb != Verb::Open {
-            return true;
-        }
-        let set = Set::of(call.set);
-        for station in self.log.served..8 {
-            if set.holds(station) {
-                return false;
-            }
-        }
-        set.size() > 0
+        let served = self.log.served();
+        let set = Set::from(call.set);
+        let set_there = set.size() > 0 && (served..8).all(|station| !set.holds(station));
+        call.station < served && (call.verb != Verb::Open || set_there)
     }
 
     /// Question 4: the stations that need power.
-    fn all_lit(&self, call: &Call) -> bool {
-        let mut needed = Set::nobody();
+    fn needed(&self, call: &Call) -> Set {
         match call.verb {
-            Verb::Open => needed = Set::of(call.set).with(call.station),
-            Verb::Settle => needed = Set::of(255),
-            _ => needed = needed.with(self.acting(call)),
+            Verb::Open => Set::from(call.set).with(call.station),
+            Verb::Settle => Set::from(255),
+            Verb::Cut => Set::default().with(call.station),
+            _ => self
+                .acting(call)
+                .map_or(Set::default(), |entry| Set::default().with(entry.station)),
         }
-        for station in 0..self.log.served {
-            if needed.holds(station) && self.is_dark(station) {
-                return false;
-            }
-        }
-        true
     }
 
-    /// The acting station of a call that has one before its step is known.
-    pub(crate) fn acting(&self, call: &Call) -> u8 {
+    /// The acting station's entry, for the five calls that start from one.
+    pub(crate) fn acting(&self, call: &Call) -> Option<Entry> {
         match call.verb {
-            Verb::Close | Verb::GiveUp | Verb::Chase => match self
-                .rows
-                .get(usize::from(call.revision))
-            {
-                Some(row) => row.coordinator,
-                None => 255,
-            },
-            _ => call.station,
+            Verb::Reject | Verb::Inquire => {
+                Some(Entry::new(call.station, call.revision, Side::Stages))
+            }
+            _ => self.coordinating(call.revision),
         }
     }
 
     /// Question 6: the acting station's entry.
     fn allowed(&self, call: &Call) -> bool {
-        let side = match call.verb {
-            Verb::Reject | Verb::Inquire => Side::Stages,
-            _ => Side::Coordinates,
-        };
-        let Some(holding) = self.holding(self.acting(call), call.revision, side) else {
-            return false;
-        };
-        match holding {
-            Holding::Opened(_) => call.verb == Verb::Close || call.verb == Verb::GiveUp,
-            Holding::Collecting(_, _) => call.verb == Verb::GiveUp,
-            Holding::Announcing(_, _) => call.verb == Verb::Chase,
-            Holding::Active(_) => call.verb == Verb::Reject,
-            Holding::Prepared(_) => call.verb == Verb::Inquire,
-        }
+        self.acting(call)
+            .and_then(|entry| self.holding(entry))
+            .is_some_and(|holding| holding.allows(call.verb))
     }
 }

@@ -7,8 +7,8 @@
 //!
 //! The shape: the records of all stations stand in one list in the order of writing, each with a stable flag
 //! (`sections`); the entries of both kinds stand in one list of holdings, and none is a holding that is not there
-//! (`whole`); the questions before a call are a list of numbers for each call (`asked`); a step is first made as a list
-//! of acts (`steps`) and then carried out up to the fuse by one loop (`whole`).
+//! (`whole`); the questions before a call are a list for each call (`asked`); a step is first made as a list of acts
+//! (`steps`) and then carried out, as far as power lasts, by one loop (`whole`).
 #![tactic(auto)]
 
 mod asked;

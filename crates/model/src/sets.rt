@@ -1,117 +1,89 @@
 //! Sets of stations, as eight flags.
 
-ghost use Rattle.std.specs.Prelude.{◌≡◌, ◌/◌, ◌%◌, ◌^◌, ◌<◌, ◌==◌};
+ghost use Rattle.std.specs.Prelude.{◌≡◌, ◌/◌, ◌%◌, ◌^◌, ◌<◌, ◌==◌, SomeIff};
 
-/// Whether the bit worth 2^station is on: how a byte says who is in a set.
+/// The numbers that a station can have.
+pub const STATIONS: [u8; 8] = [0, 1, 2, 3, 4, 5, 6, 7];
+
+/// Whether the bit worth 2^station is on: how a byte says who is in a set. It divides by what the bit is worth, as the
+/// documents have it; the engine shifts.
 pub fn member(byte: u8, station: u8) -> bool
     ensures { station < 8 → result ≡ (byte / 2 ^ station % 2 == 1) }
 {
-    match station {
-        0 => byte / 1 % 2 == 1,
-        1 => byte / 2 % 2 == 1,
-        2 => byte / 4 % 2 == 1,
-        3 => byte / 8 % 2 == 1,
-        4 => byte / 16 % 2 == 1,
-        5 => byte / 32 % 2 == 1,
-        6 => byte / 64 % 2 == 1,
-        7 => byte / 128 % 2 == 1,
-        _ => false,
-    }
+    worth(station).is_some_and(|worth| byte / worth % 2 == 1)
 }
 
 /// 2^station, for the stations 0 to 7.
-fn worth(station: u8) -> u8 {
-    match station {
-        0 => 1,
-        1 => 2,
-        2 => 4,
-        3 => 8,
-        4 => 16,
-        5 => 32,
-        6 => 64,
-        7 => 128,
-        _ => 0,
-    }
+fn worth(station: u8) -> Option<u8>
+    ensures { SomeIff result (2 ^ station < 2 ^ 8) (2 ^ station) }
+{
+    2u8.checked_pow(u32::from(station))
 }
 
 /// A set of stations: flag s is on if station s is a member.
-#[derive(Clone, Copy)]
+#[derive(Clone, Copy, PartialEq, Eq, Default, Debug)]
 pub struct Set {
     flags: [bool; 8],
 }
 
-impl Set {
-    /// The set of nobody.
-    pub fn nobody() -> Set {
-        Set { flags: [false; 8] }
-    }
-
-    /// The set that a byte stands for.
-    pub fn of(byte: u8) -> Set {
-        let mut flags = [false; 8];
-        for station in 0..8u8 {
-            flags[station as usize] = member(byte, station);
-        }
+impl From<u8> for Set {
+    fn from(byte: u8) -> Set {
+        let flags = STATIONS.map(|station| member(byte, station));
         Set { flags }
     }
+}
 
-    /// The byte that stands for the set.
-    pub fn byte(&self) -> u8 {
-        let mut sum: u8 = 0;
-        for station in 0..8u8 {
-            if self.flags[station as usize] {
-                sum = sum.wrapping_add(worth(station));
-            }
-        }
-        sum
+impl From<Set> for u8 {
+    fn from(set: Set) -> u8 {
+        STATIONS
+            .into_iter()
+            .filter(|station| set.holds(*station))
+            .filter_map(worth)
+            .fold(0, u8::wrapping_add)
     }
+}
 
+impl Set {
     /// Whether the station is a member.
-    pub fn holds(&self, station: u8) -> bool {
-        if station < 8 {
-            self.flags[station as usize]
-        } else {
-            false
-        }
+    pub fn holds(self, station: u8) -> bool {
+        self.flags
+            .get(usize::from(station))
+            .is_some_and(|flag| *flag)
     }
 
     /// How many members there are.
-    pub fn size(&self) -> usize {
-        let mut count: usize = 0;
-        for flag in self.flags.iter() {
-            if *flag {
-                count = count.wrapping_add(1);
-            }
+    pub fn size(self) -> usize {
+        self.flags.iter().filter(|flag| **flag).count()
+    }
+
+    /// The set with one station's flag as given.
+    fn flagged(mut self, station: u8, as_given: bool) -> Set {
+        if let Some(flag) = self.flags.get_mut(usize::from(station)) {
+            *flag = as_given;
         }
-        count
+        self
     }
 
     /// The set with the station too.
-    pub fn with(&self, station: u8) -> Set {
-        let mut flags = self.flags;
-        if station < 8 {
-            flags[station as usize] = true;
-        }
-        Set { flags }
+    pub fn with(self, station: u8) -> Set {
+        self.flagged(station, true)
     }
 
     /// The set without the station.
-    pub fn without(&self, station: u8) -> Set {
-        let mut flags = self.flags;
-        if station < 8 {
-            flags[station as usize] = false;
-        }
-        Set { flags }
+    pub fn without(self, station: u8) -> Set {
+        self.flagged(station, false)
     }
 
     /// The members that are not in `others`.
-    pub fn beyond(&self, others: &Set) -> Set {
-        let mut rest = *self;
-        for station in 0..8u8 {
-            if others.holds(station) {
-                rest = rest.without(station);
-            }
-        }
-        rest
+    pub fn beyond(self, others: Set) -> Set {
+        let flags = STATIONS.map(|station| self.holds(station) && !others.holds(station));
+        Set { flags }
+    }
+
+    /// Whether somebody is a member of both sets.
+    pub(crate) fn meets(self, others: Set) -> bool {
+        STATIONS
+            .iter()
+            .any(|station| self.holds(*station) && others.holds(*station))
     }
 }

@@ -1,12 +1,12 @@
 //! The steps, each as a list of acts and what becomes of the entry.
 
-use super::sets::Set;
+use super::sets::{STATIONS, Set};
 use super::whole::Model;
-use super::words::{AbortLogging, Holding, Kind, Message, Outcome, Side, Word};
-use std::alloc::{AllocError, Global};
+use super::words::{AbortLogging, Entry, Holding, Kind, Message, Outcome, Word};
+use std::alloc::AllocError;
 
 /// One act of the acting station.
-#[derive(Clone, Copy)]
+#[derive(Clone, Copy, PartialEq, Eq, Debug)]
 pub enum Act {
     Write(Kind, u8),
     Force,
@@ -15,84 +15,77 @@ pub enum Act {
 }
 
 /// What becomes of an entry after the last act.
-#[derive(Clone, Copy)]
+#[derive(Clone, Copy, PartialEq, Eq, Debug)]
 pub enum Then {
     Stays,
     Goes,
     Turns(Holding),
 }
 
-/// A step: the acting station, the revision, the acts, and which entry changes and how.
+/// A step of the station that an entry belongs to: its acts, and how the entry changes after them.
 #[derive(Drop)]
 pub struct Step {
-    pub station: u8,
-    pub revision: u16,
+    pub entry: Entry,
     pub acts: Vec<Act>,
-    pub side: Side,
     pub then: Then,
 }
 
 impl Step {
-    /// The step with no act that changes nothing.
-    fn rest(heap: Global, station: u8, revision: u16, side: Side) -> Step {
-        Step {
-            station,
-            revision,
-            acts: Vec::new(heap),
-            side,
-            then: Then::Stays,
-        }
-    }
-
-    /// Adds one act for each station of the set, in ascending order.
-    fn post_each(&mut self, word: Word, set: &Set) -> Result<(), AllocError> {
-        for station in 0..8u8 {
-            if set.holds(station) {
-                self.acts.push(Act::Post(word, station))?;
-            }
-        }
-        Ok(())
-    }
-
     /// Adds the act of writing a record.
     fn write(&mut self, kind: Kind, argument: u8) -> Result<(), AllocError> {
         self.acts.push(Act::Write(kind, argument))?;
         Ok(())
     }
-}
 
-/// The message that carries an outcome.
-fn carrier(outcome: Outcome) -> Word {
-    match outcome {
-        Outcome::Commit => Word::Commit,
-        Outcome::Abort => Word::Abort,
+    /// Adds the act of a force.
+    fn force(&mut self) -> Result<(), AllocError> {
+        self.acts.push(Act::Force)?;
+        Ok(())
+    }
+
+    /// Adds the act of posting one message.
+    fn post(&mut self, word: Word, receiver: u8) -> Result<(), AllocError> {
+        self.acts.push(Act::Post(word, receiver))?;
+        Ok(())
+    }
+
+    /// Adds one post for each station of the set, in ascending order.
+    fn post_each(&mut self, word: Word, set: Set) -> Result<(), AllocError> {
+        let receivers = STATIONS.iter().filter(|station| set.holds(**station));
+        self.acts
+            .extend(receivers.map(|receiver| Act::Post(word, *receiver)))
     }
 }
 
+/// The steps of the coordinator and of the stations, by their names.
 impl Model {
-    /// OpenVote.
-    pub(crate) fn open_vote(
-        &self,
-        station: u8,
-        revision: u16,
-        set: Set,
-    ) -> Result<Step, AllocError> {
-        let mut step = Step::rest(self.heap, station, revision, Side::Coordinates);
-        if self.presumption.opens {
-            step.write(Kind::Opening, set.byte())?;
-            step.acts.push(Act::Force)?;
+    /// Rest.
+    fn rest(&self, entry: Entry) -> Step {
+        Step {
+            entry,
+            acts: Vec::new(self.heap),
+            then: Then::Stays,
         }
-        step.post_each(Word::Prepare, &set)?;
-        step.then = Then::Turns(Holding::Collecting(set, Set::nobody()));
+    }
+
+    /// OpenVote.
+    pub(crate) fn open_vote(&self, entry: Entry, set: Set) -> Result<Step, AllocError> {
+        let mut step = self.rest(entry);
+        if self.presumption.opens {
+            step.write(Kind::Opening, u8::from(set))?;
+            step.force()?;
+        }
+        step.post_each(Word::Prepare, set)?;
+        step.then = Then::Turns(Holding::Collecting(set, Set::default()));
         Ok(step)
     }
 
     /// DecideCommit.
-    fn decide_commit(&self, station: u8, revision: u16, set: Set) -> Result<Step, AllocError> {
-        let mut step = Step::rest(self.heap, station, revision, Side::Coordinates);
-        step.write(Kind::Commit, set.byte())?;
-        step.acts.push(Act::Force)?;
-        step.post_each(Word::Commit, &set)?;
+    fn decide_commit(&self, entry: Entry, set: Set) -> Result<Step, AllocError> {
+        let mut step = self.rest(entry);
+        step.write(Kind::Commit, u8::from(set))?;
+        step.force()?;
+        step.post_each(Word::Commit, set)?;
         step.then = if self.presumption.acknowledges(Outcome::Commit) {
             Then::Turns(Holding::Announcing(Outcome::Commit, set))
         } else {
@@ -104,19 +97,18 @@ impl Model {
     /// DecideAbort, with the whole set and those to be told.
     pub(crate) fn decide_abort(
         &self,
-        station: u8,
-        revision: u16,
+        entry: Entry,
         set: Set,
         told: Set,
     ) -> Result<Step, AllocError> {
-        let mut step = Step::rest(self.heap, station, revision, Side::Coordinates);
+        let mut step = self.rest(entry);
         if self.presumption.abort_logging != AbortLogging::NotAtAll {
-            step.write(Kind::Abort, set.byte())?;
+            step.write(Kind::Abort, u8::from(set))?;
         }
         if self.presumption.abort_logging == AbortLogging::Forced {
-            step.acts.push(Act::Force)?;
+            step.force()?;
         }
-        step.post_each(Word::Abort, &told)?;
+        step.post_each(Word::Abort, told)?;
         step.then = Then::Goes;
         if self.presumption.acknowledges(Outcome::Abort) {
             if told.size() == 0 {
@@ -131,206 +123,164 @@ impl Model {
     /// Chase.
     pub(crate) fn chasing(
         &self,
-        station: u8,
-        revision: u16,
+        entry: Entry,
         outcome: Outcome,
-        set: Set,
+        awaited: Set,
     ) -> Result<Step, AllocError> {
-        let mut step = Step::rest(self.heap, station, revision, Side::Coordinates);
-        step.post_each(carrier(outcome), &set)?;
+        let mut step = self.rest(entry);
+        step.post_each(Word::from(outcome), awaited)?;
         Ok(step)
     }
 
     /// Inquire.
-    pub(crate) fn inquiring(
-        &self,
-        station: u8,
-        revision: u16,
-        coordinator: u8,
-    ) -> Result<Step, AllocError> {
-        let mut step = Step::rest(self.heap, station, revision, Side::Stages);
-        step.acts.push(Act::Post(Word::Inquiry, coordinator))?;
+    pub(crate) fn inquiring(&self, entry: Entry, coordinator: u8) -> Result<Step, AllocError> {
+        let mut step = self.rest(entry);
+        step.post(Word::Inquiry, coordinator)?;
         Ok(step)
     }
 
     /// Reject.
-    pub(crate) fn rejecting(
-        &self,
-        station: u8,
-        revision: u16,
-        coordinator: u8,
-    ) -> Result<Step, AllocError> {
-        let mut step = Step::rest(self.heap, station, revision, Side::Stages);
-        step.acts.push(Act::Mark(Outcome::Abort))?;
-        step.write(Kind::Aborted, coordinator)?;
-        if self.presumption.forces(Outcome::Abort) {
-            step.acts.push(Act::Force)?;
-        }
-        step.then = Then::Goes;
-        Ok(step)
+    pub(crate) fn rejecting(&self, entry: Entry, coordinator: u8) -> Result<Step, AllocError> {
+        self.finishing(entry, Outcome::Abort, coordinator)
     }
 
     /// Enforce.
-    fn enforce(
+    fn enforce(&self, entry: Entry, outcome: Outcome, coordinator: u8) -> Result<Step, AllocError> {
+        let mut step = self.finishing(entry, outcome, coordinator)?;
+        if self.presumption.acknowledges(outcome) {
+            step.post(Word::Ack, coordinator)?;
+        }
+        Ok(step)
+    }
+
+    /// What Reject and Enforce have in common: the mark, the record and its force, and the entry gone.
+    fn finishing(
         &self,
-        message: Message,
+        entry: Entry,
         outcome: Outcome,
         coordinator: u8,
     ) -> Result<Step, AllocError> {
-        let mut step = Step::rest(self.heap, message.receiver, message.revision, Side::Stages);
+        let mut step = self.rest(entry);
         step.acts.push(Act::Mark(outcome))?;
-        match outcome {
-            Outcome::Commit => step.write(Kind::Committed, coordinator)?,
-            Outcome::Abort => step.write(Kind::Aborted, coordinator)?,
-        }
+        let kind = match outcome {
+            Outcome::Commit => Kind::Committed,
+            Outcome::Abort => Kind::Aborted,
+        };
+        step.write(kind, coordinator)?;
         if self.presumption.forces(outcome) {
-            step.acts.push(Act::Force)?;
-        }
-        if self.presumption.acknowledges(outcome) {
-            step.acts.push(Act::Post(Word::Ack, coordinator))?;
+            step.force()?;
         }
         step.then = Then::Goes;
         Ok(step)
     }
+}
 
+/// The steps that messages set off, each at the entry that the message meets.
+impl Model {
     /// The step that a message sets off at its receiver.
     pub(crate) fn met_by(&self, message: Message) -> Result<Step, AllocError> {
+        let entry = message.entry();
+        let sender = message.sender;
         match message.word {
-            Word::Prepare => self.met_by_prepare(message),
-            Word::Commit => self.met_by_outcome(message, Outcome::Commit),
-            Word::Abort => self.met_by_outcome(message, Outcome::Abort),
-            Word::Yes => self.met_by_yes(message),
-            Word::No => self.met_by_no(message),
-            Word::Ack => self.met_by_ack(message),
-            Word::Inquiry => self.met_by_inquiry(message),
+            Word::Prepare => self.met_by_prepare(entry, sender),
+            Word::Commit => self.met_by_outcome(entry, sender, Outcome::Commit),
+            Word::Abort => self.met_by_outcome(entry, sender, Outcome::Abort),
+            Word::Yes => self.met_by_yes(entry, sender),
+            Word::No => self.met_by_no(entry, sender),
+            Word::Ack => self.met_by_ack(entry, sender),
+            Word::Inquiry => self.met_by_inquiry(entry, sender),
         }
     }
 
     /// PREPARE: Prepare, RepeatYes or VoteNo.
-    fn met_by_prepare(&self, message: Message) -> Result<Step, AllocError> {
-        let mut step = Step::rest(self.heap, message.receiver, message.revision, Side::Stages);
-        match self.holding(message.receiver, message.revision, Side::Stages) {
-            None => step.acts.push(Act::Post(Word::No, message.sender))?,
+    fn met_by_prepare(&self, entry: Entry, sender: u8) -> Result<Step, AllocError> {
+        let mut step = self.rest(entry);
+        match self.holding(entry) {
+            None => step.post(Word::No, sender)?,
             Some(Holding::Active(coordinator)) => {
                 step.write(Kind::Prepared, coordinator)?;
-                step.acts.push(Act::Force)?;
-                step.acts.push(Act::Post(Word::Yes, message.sender))?;
+                step.force()?;
+                step.post(Word::Yes, sender)?;
                 step.then = Then::Turns(Holding::Prepared(coordinator));
             }
-            Some(_) => step.acts.push(Act::Post(Word::Yes, message.sender))?,
+            Some(_) => step.post(Word::Yes, sender)?,
         }
         Ok(step)
     }
 
     /// COMMIT and ABORT: Enforce, Acknowledge or Rest.
-    fn met_by_outcome(&self, message: Message, outcome: Outcome) -> Result<Step, AllocError> {
-        let mut step = Step::rest(self.heap, message.receiver, message.revision, Side::Stages);
-        match self.holding(message.receiver, message.revision, Side::Stages) {
-            None => {
-                if self.presumption.acknowledges(outcome) {
-                    step.acts.push(Act::Post(Word::Ack, message.sender))?;
-                }
+    fn met_by_outcome(
+        &self,
+        entry: Entry,
+        sender: u8,
+        outcome: Outcome,
+    ) -> Result<Step, AllocError> {
+        match self.holding(entry) {
+            None if self.presumption.acknowledges(outcome) => {
+                let mut step = self.rest(entry);
+                step.post(Word::Ack, sender)?;
                 Ok(step)
             }
-            Some(Holding::Active(coordinator)) => {
-                if outcome == Outcome::Abort {
-                    self.enforce(message, outcome, coordinator)
-                } else {
-                    Ok(step)
-                }
-            }
-            Some(Holding::Prepared(coordinator)) => self.enforce(message, outcome, coordinator),
-            Some(_) => Ok(step),
+            Some(Holding::Active(coordinator)) if outcome == Outcome::Abort => self.enforce(
+                entry,
+                outcome,
+                coordinator,
+            ),
+            Some(Holding::Prepared(coordinator)) => self.enforce(entry, outcome, coordinator),
+            _ => Ok(self.rest(entry)),
         }
     }
 
     /// YES: a voter more, and DecideCommit with the last one.
-    fn met_by_yes(&self, message: Message) -> Result<Step, AllocError> {
-        let mut step = Step::rest(
-            self.heap,
-            message.receiver,
-            message.revision,
-            Side::Coordinates,
-        );
-        if let Some(Holding::Collecting(set, voters)) = self.holding(
-            message.receiver,
-            message.revision,
-            Side::Coordinates,
-        ) {
-            if set.holds(message.sender) {
-                let now_in = voters.with(message.sender);
-                if set.beyond(&now_in).size() == 0 {
-                    return self.decide_commit(message.receiver, message.revision, set);
-                }
-                step.then = Then::Turns(Holding::Collecting(set, now_in));
+    fn met_by_yes(&self, entry: Entry, sender: u8) -> Result<Step, AllocError> {
+        let mut step = self.rest(entry);
+        if let Some(Holding::Collecting(set, voters)) = self.holding(entry)
+            && set.holds(sender)
+        {
+            let voters = voters.with(sender);
+            if voters == set {
+                return self.decide_commit(entry, set);
             }
+            step.then = Then::Turns(Holding::Collecting(set, voters));
         }
         Ok(step)
     }
 
     /// NO: DecideAbort, telling all but the sender.
-    fn met_by_no(&self, message: Message) -> Result<Step, AllocError> {
-        if let Some(Holding::Collecting(set, _)) = self.holding(
-            message.receiver,
-            message.revision,
-            Side::Coordinates,
-        ) {
-            if set.holds(message.sender) {
-                return self.decide_abort(
-                    message.receiver,
-                    message.revision,
-                    set,
-                    set.without(message.sender),
-                );
-            }
+    fn met_by_no(&self, entry: Entry, sender: u8) -> Result<Step, AllocError> {
+        match self.holding(entry) {
+            Some(Holding::Collecting(set, _)) if set.holds(sender) => self.decide_abort(
+                entry,
+                set,
+                set.without(sender),
+            ),
+            _ => Ok(self.rest(entry)),
         }
-        Ok(Step::rest(
-            self.heap,
-            message.receiver,
-            message.revision,
-            Side::Coordinates,
-        ))
     }
 
     /// ACK: one awaited station less, and End with the last one.
-    fn met_by_ack(&self, message: Message) -> Result<Step, AllocError> {
-        let mut step = Step::rest(
-            self.heap,
-            message.receiver,
-            message.revision,
-            Side::Coordinates,
-        );
-        if let Some(Holding::Announcing(outcome, awaited)) = self.holding(
-            message.receiver,
-            message.revision,
-            Side::Coordinates,
-        ) {
-            if awaited.holds(message.sender) {
-                let left = awaited.without(message.sender);
-                if left.size() == 0 {
-                    step.write(Kind::End, 0)?;
-                    step.then = Then::Goes;
-                } else {
-                    step.then = Then::Turns(Holding::Announcing(outcome, left));
-                }
+    fn met_by_ack(&self, entry: Entry, sender: u8) -> Result<Step, AllocError> {
+        let mut step = self.rest(entry);
+        if let Some(Holding::Announcing(outcome, awaited)) = self.holding(entry)
+            && awaited.holds(sender)
+        {
+            let left = awaited.without(sender);
+            if left.size() == 0 {
+                step.write(Kind::End, 0)?;
+                step.then = Then::Goes;
+            } else {
+                step.then = Then::Turns(Holding::Announcing(outcome, left));
             }
         }
         Ok(step)
     }
 
     /// INQUIRY: Tell, or Rest while nothing is decided.
-    fn met_by_inquiry(&self, message: Message) -> Result<Step, AllocError> {
-        let mut step = Step::rest(
-            self.heap,
-            message.receiver,
-            message.revision,
-            Side::Coordinates,
-        );
-        match self.holding(message.receiver, message.revision, Side::Coordinates) {
-            None => step.acts.push(Act::Post(carrier(self.presumption.presumed), message.sender))?,
-            Some(Holding::Announcing(outcome, _)) => step
-                .acts
-                .push(Act::Post(carrier(outcome), message.sender))?,
+    fn met_by_inquiry(&self, entry: Entry, sender: u8) -> Result<Step, AllocError> {
+        let mut step = self.rest(entry);
+        match self.holding(entry) {
+            None => step.post(Word::from(self.presumption.presumed), sender)?,
+            Some(Holding::Announcing(outcome, _)) => step.post(Word::from(outcome), sender)?,
             Some(_) => {}
         }
         Ok(step)

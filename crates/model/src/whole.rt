@@ -1,20 +1,22 @@
 //! The run as one flat struct, and its calls.
 
 use super::sections::Log;
-use super::sets::Set;
+use super::sets::{STATIONS, Set};
 use super::steps::{Act, Step, Then};
 use super::words::{
-    Answer, Call, Holding, Kind, Message, Outcome, Part, Presumption, Record, Row, Side, Verb,
+    Answer, Call, Entry, Failure, Holding, Kind, Message, Outage, Outcome, Part, Presumption,
+    Record, Refusal, Row, Side, Verb,
 };
 use std::alloc::{AllocError, Global};
+
+/// How many revisions there are at most.
+pub(crate) const REVISIONS: u16 = 32;
 
 /// How many messages wait at most.
 const WAITING: usize = 64;
 
-/// A fuse that never burns.
-const NEVER: u8 = 255;
-
-/// A run: its presumption, who is dark, the entries that are not none, the post, the as-run log and the journal.
+/// A run: its presumption, who is dark, the entries that are not none, the post, the as-run log and the journal. The
+/// entries are a list and no map, since `compare` draws calls from them by their order, which a map would change.
 #[derive(Drop)]
 pub struct Model {
     pub presumption: Presumption,
@@ -30,216 +32,167 @@ pub struct Model {
 impl Model {
     /// A fresh run over a journal.
     pub fn new(heap: Global, presumption: Presumption, log: Log) -> Model {
-        let mut fit = log.served >= 2 && log.served <= 8 && log.lines.is_empty();
-        for station in 0..log.served {
-            if log.capacity(station) < 160 {
-                fit = false;
-            }
-        }
-        let dark = Set::nobody();
-        let parts = Vec::new(heap);
-        let post = Vec::new(heap);
-        let rows = Vec::new(heap);
+        let served = log.served();
+        let roomy = (0..served).all(|station| log.capacity(station) >= 160);
         Model {
             presumption,
-            fit,
-            dark,
-            parts,
-            post,
-            rows,
+            fit: served >= 2 && roomy && log.lines.is_empty(),
+            dark: Set::default(),
+            parts: Vec::new(heap),
+            post: Vec::new(heap),
+            rows: Vec::new(heap),
             log,
             heap,
         }
     }
 
     /// Makes a call: its questions first, and then what it does.
-    pub fn perform(&mut self, call: &Call) -> Result<Answer, AllocError> {
-        if let Some(number) = self.refusal(call) {
-            return Ok(Answer::Refused(number));
-        }
-        match call.verb {
-            Verb::Open => self.open(call.station, Set::of(call.set)),
-            Verb::Close | Verb::GiveUp | Verb::Reject | Verb::Chase | Verb::Inquire => self.set_off(
-                call,
-            ),
-            Verb::Deliver => {
-                let acts = self.deliver(call.place, call.copy, call.fuse, call.kept)?;
-                Ok(Answer::Acts(acts))
+    pub fn perform(&mut self, call: &Call) -> Result<Answer, Failure> {
+        self.ask(call)?;
+        let answer = match call.verb {
+            Verb::Open => Answer::Revision(self.open(call.station, Set::from(call.set))?),
+            Verb::Close | Verb::GiveUp | Verb::Reject | Verb::Chase | Verb::Inquire => {
+                Answer::Acts(self.set_off(call)?)
             }
+            Verb::Deliver => Answer::Acts(self.deliver(call.place, call.copy, call.outage)?),
             Verb::Lose => {
-                self.take_out(call.place);
-                Ok(Answer::Zero)
+                self.take_out(call.place)?;
+                Answer::Zero
             }
             Verb::Cut => {
-                self.cut(call.station, call.kept)?;
-                Ok(Answer::Zero)
+                self.cut(call.station, call.outage.kept)?;
+                Answer::Zero
             }
             Verb::Restart => {
                 self.restart(call.station)?;
-                Ok(Answer::Zero)
+                Answer::Zero
             }
-            Verb::Settle => Ok(Answer::Deliveries(self.settle()?)),
-            Verb::Awaited => Ok(Answer::Unheard(self.unheard(call.revision))),
-        }
+            Verb::Settle => Answer::Deliveries(self.settle()?),
+            Verb::Awaited => Answer::Unheard(self.unheard(call.revision)),
+        };
+        Ok(answer)
     }
 
-    /// Whether a station has no power.
-    pub(crate) fn is_dark(&self, station: u8) -> bool {
-        self.dark.holds(station)
+    /// What an entry holds; nothing where it is none.
+    pub(crate) fn holding(&self, entry: Entry) -> Option<Holding> {
+        self.parts
+            .iter()
+            .find(|part| part.entry == entry)
+            .map(|part| part.holding)
     }
 
-    /// What a station's entry holds; nothing where it is none.
-    pub(crate) fn holding(&self, station: u8, revision: u16, side: Side) -> Option<Holding> {
-        for part in self.parts.iter() {
-            if part.station == station && part.revision == revision && part.side == side {
-                return Some(part.holding);
-            }
-        }
-        None
-    }
-
-    /// Makes a station's entry none.
-    fn forget(&mut self, station: u8, revision: u16, side: Side) {
-        let mut place = self.parts.len();
-        for (i, part) in self.parts.iter().enumerate() {
-            if part.station == station && part.revision == revision && part.side == side {
-                place = i;
-            }
-        }
-        if place < self.parts.len() {
-            let _ = self.parts.swap_remove(place);
-        }
-    }
-
-    /// Makes a station's entry hold something, in place of what it held.
-    fn hold(
-        &mut self,
-        station: u8,
-        revision: u16,
-        side: Side,
-        holding: Holding,
-    ) -> Result<(), AllocError> {
-        self.forget(station, revision, side);
-        self.parts.push(Part {
-            station,
+    /// The entry of a revision's coordinator.
+    pub(crate) fn coordinating(&self, revision: u16) -> Option<Entry> {
+        self.rows.get(usize::from(revision)).map(|row| Entry::new(
+            row.coordinator,
             revision,
-            side,
-            holding,
-        })?;
+            Side::Coordinates,
+        ))
+    }
+
+    /// Makes an entry none.
+    fn forget(&mut self, entry: Entry) {
+        if let Some(place) = self.parts.iter().position(|part| part.entry == entry) {
+            self.parts.swap_remove(place);
+        }
+    }
+
+    /// Makes an entry hold something, in place of what it held.
+    fn hold(&mut self, entry: Entry, holding: Holding) -> Result<(), AllocError> {
+        self.forget(entry);
+        self.parts.push(Part { entry, holding })?;
         Ok(())
     }
 
-    /// The call open, once its questions are asked.
-    fn open(&mut self, coordinator: u8, set: Set) -> Result<Answer, AllocError> {
-        let revision = (self.rows.len() % 65536) as u16;
-        let row = Row {
+    /// The call open, once its questions are asked. Answers the new revision's number.
+    fn open(&mut self, coordinator: u8, set: Set) -> Result<u16, Failure> {
+        let revision = u16::try_from(self.rows.len()).map_err(|_| Refusal::TooManyRevisions)?;
+        self.rows.push(Row {
             coordinator,
             set,
-            installed: Set::nobody(),
-            dropped: Set::nobody(),
-        };
-        self.rows.push(row)?;
-        self.hold(
-            coordinator,
-            revision,
-            Side::Coordinates,
-            Holding::Opened(set),
-        )?;
-        for station in 0..8u8 {
-            if set.holds(station) {
-                self.hold(
-                    station,
-                    revision,
-                    Side::Stages,
-                    Holding::Active(coordinator),
-                )?;
-            }
+            installed: Set::default(),
+            dropped: Set::default(),
+        })?;
+        let coordinating = Entry::new(coordinator, revision, Side::Coordinates);
+        self.hold(coordinating, Holding::Opened(set))?;
+        for station in STATIONS.into_iter().filter(|station| set.holds(*station)) {
+            let staging = Entry::new(station, revision, Side::Stages);
+            self.hold(staging, Holding::Active(coordinator))?;
         }
-        Ok(Answer::Revision(revision))
+        Ok(revision)
     }
 
-    /// The five calls that set off a step of their acting station, once their questions are asked.
-    fn set_off(&mut self, call: &Call) -> Result<Answer, AllocError> {
-        let station = self.acting(call);
-        let side = match call.verb {
-            Verb::Reject | Verb::Inquire => Side::Stages,
-            _ => Side::Coordinates,
+    /// The five calls that set off a step of their acting station, once their questions are asked. Answers the acts
+    /// done.
+    fn set_off(&mut self, call: &Call) -> Result<usize, Failure> {
+        let entry = self.acting(call).ok_or(Refusal::NotOpened)?;
+        let step = match self.holding(entry).ok_or(Refusal::EntryForbids)? {
+            Holding::Opened(set) if call.verb == Verb::Close => self.open_vote(entry, set)?,
+            holding => self.moving_on(entry, holding)?,
         };
-        let Some(holding) = self.holding(station, call.revision, side) else {
-            return Ok(Answer::Refused(6));
-        };
-        let step = match holding {
-            Holding::Opened(set) => {
-                if call.verb == Verb::Close {
-                    self.open_vote(station, call.revision, set)?
-                } else {
-                    self.decide_abort(station, call.revision, set, set)?
-                }
-            }
-            Holding::Collecting(set, _) => self.decide_abort(station, call.revision, set, set)?,
-            Holding::Announcing(outcome, set) => self.chasing(
-                station,
-                call.revision,
-                outcome,
-                set,
-            )?,
-            Holding::Active(coordinator) => self.rejecting(station, call.revision, coordinator)?,
-            Holding::Prepared(coordinator) => self.inquiring(station, call.revision, coordinator)?,
-        };
-        Ok(Answer::Acts(self.carry_out(&step, call.fuse, call.kept)?))
+        self.carry_out(&step, call.outage)
     }
 
-    /// Does the acts of a step up to the fuse, and then either cuts the acting station or changes its entry. Answers
-    /// the acts done.
-    fn carry_out(&mut self, step: &Step, fuse: u8, kept: u8) -> Result<u8, AllocError> {
-        let mut done: u8 = 0;
-        for act in step.acts.iter() {
-            if done >= fuse {
-                self.cut(step.station, kept)?;
-                return Ok(done);
-            }
-            self.do_act(step, *act)?;
-            done = done.saturating_add(1);
+    /// The step of the call, other than close, that an entry allows.
+    fn moving_on(&self, entry: Entry, holding: Holding) -> Result<Step, AllocError> {
+        match holding {
+            Holding::Opened(set) | Holding::Collecting(set, _) => self.decide_abort(
+                entry, set, set,
+            ),
+            Holding::Announcing(outcome, awaited) => self.chasing(entry, outcome, awaited),
+            Holding::Active(coordinator) => self.rejecting(entry, coordinator),
+            Holding::Prepared(coordinator) => self.inquiring(entry, coordinator),
+        }
+    }
+
+    /// Does the acts of a step as long as power lasts, and then either cuts the acting station or changes its entry.
+    /// Answers the acts done.
+    fn carry_out(&mut self, step: &Step, outage: Outage) -> Result<usize, Failure> {
+        let lasting = usize::from(outage.after);
+        for act in step.acts.iter().take(lasting) {
+            self.do_act(step.entry, *act)?;
+        }
+        if lasting < step.acts.len() {
+            self.cut(step.entry.station, outage.kept)?;
+            return Ok(lasting);
         }
         match step.then {
             Then::Stays => {}
-            Then::Goes => self.forget(step.station, step.revision, step.side),
-            Then::Turns(holding) => self.hold(step.station, step.revision, step.side, holding)?,
+            Then::Goes => self.forget(step.entry),
+            Then::Turns(holding) => self.hold(step.entry, holding)?,
         }
-        Ok(done)
+        Ok(step.acts.len())
     }
 
     /// Does one act.
-    fn do_act(&mut self, step: &Step, act: Act) -> Result<(), AllocError> {
+    fn do_act(&mut self, entry: Entry, act: Act) -> Result<(), Failure> {
+        let station = entry.station;
+        let revision = entry.revision;
         match act {
             Act::Write(kind, argument) => {
-                let _ = self.log.write(
-                    step.station,
-                    Record {
-                        kind,
-                        revision: step.revision,
-                        argument,
-                    },
-                )?;
+                let what = Record {
+                    kind,
+                    revision,
+                    argument,
+                };
+                self.log.write(station, what)?;
             }
-            Act::Force => {
-                let _ = self.log.force(step.station);
-            }
+            Act::Force => self.log.force(station)?,
             Act::Post(word, receiver) => {
                 if self.post.len() < WAITING {
                     self.post.push(Message {
                         word,
-                        revision: step.revision,
-                        sender: step.station,
+                        revision,
+                        sender: station,
                         receiver,
                     })?;
                 }
             }
             Act::Mark(outcome) => {
-                if let Some(row) = self.rows.get_mut(usize::from(step.revision)) {
+                if let Some(row) = self.rows.get_mut(usize::from(revision)) {
                     match outcome {
-                        Outcome::Commit => row.installed = row.installed.with(step.station),
-                        Outcome::Abort => row.dropped = row.dropped.with(step.station),
+                        Outcome::Commit => row.installed = row.installed.with(station),
+                        Outcome::Abort => row.dropped = row.dropped.with(station),
                     }
                 }
             }
@@ -248,37 +201,32 @@ impl Model {
     }
 
     /// Takes the message at a place out of the post.
-    fn take_out(&mut self, place: usize) {
+    fn take_out(&mut self, place: usize) -> Result<Message, Refusal> {
         if place < self.post.len() {
-            let _ = self.post.remove(place);
+            Ok(self.post.remove(place))
+        } else {
+            Err(Refusal::NoMessage)
         }
     }
 
     /// The call deliver, once its questions are asked. Answers the acts done.
-    fn deliver(&mut self, place: usize, copy: bool, fuse: u8, kept: u8) -> Result<u8, AllocError> {
-        let Some(message) = self.post.get(place).copied() else {
-            return Ok(0);
+    fn deliver(&mut self, place: usize, copy: bool, outage: Outage) -> Result<usize, Failure> {
+        let message = if copy {
+            self.post.get(place).copied().ok_or(Refusal::NoMessage)?
+        } else {
+            self.take_out(place)?
         };
-        if !copy {
-            self.take_out(place);
-        }
-        if self.is_dark(message.receiver) {
+        if self.dark.holds(message.receiver) {
             return Ok(0);
         }
         let step = self.met_by(message)?;
-        self.carry_out(&step, fuse, kept)
+        self.carry_out(&step, outage)
     }
 
     /// A power cut.
-    fn cut(&mut self, station: u8, kept: u8) -> Result<(), AllocError> {
-        let _ = self.log.cut(station, usize::from(kept))?;
-        let mut rest = Vec::new(self.heap);
-        for part in self.parts.iter() {
-            if part.station != station {
-                rest.push(*part)?;
-            }
-        }
-        self.parts = rest;
+    fn cut(&mut self, station: u8, kept: u8) -> Result<(), Refusal> {
+        self.log.cut(station, usize::from(kept))?;
+        self.parts.retain(|part| part.entry.station != station);
         self.dark = self.dark.with(station);
         Ok(())
     }
@@ -286,133 +234,107 @@ impl Model {
     /// Power returns, and the entries come from the stable list.
     fn restart(&mut self, station: u8) -> Result<(), AllocError> {
         self.dark = self.dark.without(station);
-        for revision in 0..32u16 {
-            self.rise_coordinating(station, revision)?;
-            self.rise_staging(station, revision)?;
-        }
-        Ok(())
-    }
-
-    /// The argument of the station's stable record of a kind, for a revision.
-    fn on_record(&self, station: u8, revision: u16, kind: Kind) -> Option<u8> {
-        for line in self.log.lines.iter() {
-            if line.station == station
-                && line.stable
-                && line.what.revision == revision
-                && line.what.kind == kind
-            {
-                return Some(line.what.argument);
-            }
-        }
-        None
-    }
-
-    /// The coordinator entry after a restart.
-    fn rise_coordinating(&mut self, station: u8, revision: u16) -> Result<(), AllocError> {
-        let commit = self.on_record(station, revision, Kind::Commit);
-        let abort = self.on_record(station, revision, Kind::Abort);
-        let opening = self.on_record(station, revision, Kind::Opening);
-        let (outcome, set) = match (commit, abort, opening) {
-            (Some(set), _, _) => (Outcome::Commit, set),
-            (None, Some(set), _) => (Outcome::Abort, set),
-            (None, None, Some(set)) => (Outcome::Abort, set),
-            (None, None, None) => return Ok(()),
-        };
-        let ended = self.on_record(station, revision, Kind::End).is_some();
-        if self.presumption.acknowledges(outcome) && !ended {
-            self.hold(
-                station,
-                revision,
-                Side::Coordinates,
-                Holding::Announcing(outcome, Set::of(set)),
-            )?;
-        }
-        Ok(())
-    }
-
-    /// The subordinate entry after a restart.
-    fn rise_staging(&mut self, station: u8, revision: u16) -> Result<(), AllocError> {
-        let committed = self.on_record(station, revision, Kind::Committed).is_some();
-        let aborted = self.on_record(station, revision, Kind::Aborted).is_some();
-        if let Some(coordinator) = self.on_record(station, revision, Kind::Prepared) {
-            if !committed && !aborted {
-                self.hold(
-                    station,
-                    revision,
-                    Side::Stages,
-                    Holding::Prepared(coordinator),
-                )?;
+        for revision in 0..REVISIONS {
+            for side in [Side::Coordinates, Side::Stages] {
+                let entry = Entry::new(station, revision, side);
+                if let Some(holding) = self.rebuilt(entry) {
+                    self.hold(entry, holding)?;
+                }
             }
         }
         Ok(())
+    }
+
+    /// What an entry holds after a restart.
+    fn rebuilt(&self, entry: Entry) -> Option<Holding> {
+        match entry.side {
+            Side::Coordinates => self.announced(entry),
+            Side::Stages => self.promised(entry),
+        }
+    }
+
+    /// The argument of the stable record of a kind for an entry's station and revision.
+    fn on_record(&self, entry: Entry, kind: Kind) -> Option<u8> {
+        self.log
+            .lines
+            .iter()
+            .filter(|line| line.stable && line.station == entry.station)
+            .map(|line| line.what)
+            .find(|what| what.revision == entry.revision && what.kind == kind)
+            .map(|what| what.argument)
+    }
+
+    /// A coordinator entry after a restart: C goes before A, and A before I.
+    fn announced(&self, entry: Entry) -> Option<Holding> {
+        let (outcome, set) = [
+            (Kind::Commit, Outcome::Commit),
+            (Kind::Abort, Outcome::Abort),
+            (Kind::Opening, Outcome::Abort),
+        ]
+        .into_iter()
+        .find_map(|(kind, outcome)| self.on_record(entry, kind).map(|set| (outcome, set)))?;
+        let ended = self.on_record(entry, Kind::End).is_some();
+        let awaits = self.presumption.acknowledges(outcome) && !ended;
+        awaits.then_some(Holding::Announcing(outcome, Set::from(set)))
+    }
+
+    /// A subordinate entry after a restart.
+    fn promised(&self, entry: Entry) -> Option<Holding> {
+        let coordinator = self.on_record(entry, Kind::Prepared)?;
+        let finished = [Kind::Committed, Kind::Aborted]
+            .into_iter()
+            .any(|kind| self.on_record(entry, kind).is_some());
+        (!finished).then_some(Holding::Prepared(coordinator))
     }
 
     /// The call settle, once its questions are asked. Answers the deliveries made.
-    fn settle(&mut self) -> Result<usize, AllocError> {
+    fn settle(&mut self) -> Result<usize, Failure> {
         let mut made = self.drain()?;
-        for revision in 0..32u16 {
-            let Some(row) = self.rows.get(usize::from(revision)).copied() else {
+        for revision in 0..REVISIONS {
+            let Some(coordinating) = self.coordinating(revision) else {
                 return Ok(made);
             };
-            self.press(row.coordinator, revision)?;
-            made = made.saturating_add(self.drain()?);
-            for station in 0..8u8 {
-                if let Some(Holding::Prepared(coordinator)) = self.holding(
-                    station,
-                    revision,
-                    Side::Stages,
-                ) {
-                    let step = self.inquiring(station, revision, coordinator)?;
-                    let _ = self.carry_out(&step, NEVER, 0)?;
-                    made = made.saturating_add(self.drain()?);
-                }
+            made = made.saturating_add(self.press(coordinating)?);
+            for station in STATIONS {
+                let staging = Entry::new(station, revision, Side::Stages);
+                made = made.saturating_add(self.press(staging)?);
             }
         }
         Ok(made)
     }
 
-    /// Within settle: gives up a revision whose coordinator collects, chases one whose coordinator announces.
-    fn press(&mut self, coordinator: u8, revision: u16) -> Result<(), AllocError> {
-        let step = match self.holding(coordinator, revision, Side::Coordinates) {
-            Some(Holding::Collecting(set, _)) => self.decide_abort(
-                coordinator,
-                revision,
-                set,
-                set,
-            )?,
-            Some(Holding::Announcing(outcome, set)) => self.chasing(
-                coordinator,
-                revision,
-                outcome,
-                set,
-            )?,
-            _ => return Ok(()),
-        };
-        let _ = self.carry_out(&step, NEVER, 0)?;
-        Ok(())
+    /// Within settle: gives up where an entry collects, chases where it announces, inquires where it is in doubt, and
+    /// drains. Answers the deliveries made.
+    fn press(&mut self, entry: Entry) -> Result<usize, Failure> {
+        match self.holding(entry) {
+            None | Some(Holding::Opened(_) | Holding::Active(_)) => {}
+            Some(holding) => {
+                let step = self.moving_on(entry, holding)?;
+                self.carry_out(&step, Outage::NEVER)?;
+            }
+        }
+        self.drain()
     }
 
     /// Delivers the first message until none waits. Answers how many it delivered; 64 messages of the greatest weight
     /// 18 are no more than 1152 deliveries.
-    fn drain(&mut self) -> Result<usize, AllocError> {
+    fn drain(&mut self) -> Result<usize, Failure> {
         for made in 0..1152usize {
             if self.post.is_empty() {
                 return Ok(made);
             }
-            let _ = self.deliver(0, false, NEVER, 0)?;
+            self.deliver(0, false, Outage::NEVER)?;
         }
         Ok(1152)
     }
 
     /// Everybody whom the revision's coordinator has not yet heard from.
     fn unheard(&self, revision: u16) -> Set {
-        let Some(row) = self.rows.get(usize::from(revision)) else {
-            return Set::nobody();
-        };
-        match self.holding(row.coordinator, revision, Side::Coordinates) {
-            Some(Holding::Collecting(set, voters)) => set.beyond(&voters),
+        let coordinating = self.coordinating(revision);
+        match coordinating.and_then(|entry| self.holding(entry)) {
+            Some(Holding::Collecting(set, voters)) => set.beyond(voters),
             Some(Holding::Announcing(_, awaited)) => awaited,
-            _ => Set::nobody(),
+            _ => Set::default(),
         }
     }
 }
