@@ -117,4 +117,4 @@ module _ (bs : List ℕ) (n s : ℕ) where
 
 -- A journal whose bytes a call leaves as they are.
 pub unchanged : (j : ByteJournal) (bs : List ℕ) → journal_bytes j ≡ bs → Rewritten j j bs
-unchanged j bs e = record { borrowed = refl; stations = refl; bytes = e; sound = sound_from j.bytes.now j.stations j.again }
+unchanged j bs e = record { stations = refl; bytes = e; sound = sound_from j.bytes.now j.stations j.again }

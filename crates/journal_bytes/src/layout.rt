@@ -23,11 +23,11 @@ pub(crate) struct Counts {
     pub(crate) unforced: usize,
     ghost ordered: { stable + unforced ≤ capacity },
     ghost few: { capacity < most_bytes },
-    ghost near: { start ≤ most_bytes * 256 },
+    ghost near: { record_start start capacity < 2 ^ 64 },
 }
 
 impl Counts {
-    ghost use Rattle.std.specs.Prelude.{◌≡◌, ◌+◌, ◌*◌, ◌≤◌, length};
+    ghost use Rattle.std.specs.Prelude.{◌≡◌, ◌+◌, ◌≤◌, length};
     ghost use Rattle.journal_bytes.specs.Found.{CountsOf};
     ghost use Rattle.journal_bytes.specs.Layout.{most_bytes, counts_bytes, capacity_of, record_start};
     ghost use Rattle.journal_bytes.specs.Opening.{counted};
@@ -36,7 +36,6 @@ impl Counts {
     pub(crate) fn of(bytes: &[u8], start: usize, size: usize) -> Counts
         requires within { start + size ≤ length bytes.now }
         requires small { size ≤ most_bytes }
-        requires near { start ≤ most_bytes * 256 }
         requires room { counts_bytes ≤ size → counted bytes.now start ≤ capacity_of size }
         ensures { CountsOf bytes.now start size result }
     {
