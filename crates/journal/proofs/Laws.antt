@@ -15,9 +15,6 @@ pub changed_same : (g : Section → Section) (m : List Section) (s : ℕ) → g 
 changed_same g m s e = ap (set m s) e ∙ set-get_or m s no_section
 
 -- What a force and a cut answer.
-pub served_yes : (m : List Section) (s : ℕ) → s < length m → served_answer m s ≡ 0
-served_yes m s h = grind (arith, nat_tests)
-
 pub served_no : (m : List Section) (s : ℕ) → length m ≤ s → served_answer m s ≡ 11
 served_no m s h = grind (arith, nat_tests)
 

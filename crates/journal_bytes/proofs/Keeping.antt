@@ -1,5 +1,5 @@
 -- The bytes of a journal stay a journal's: they are sound from its making on, and every call keeps them so.
-use Rattle.std.proofs.Common.{◌≡◌, ℕ, ◌+◌, ◌/◌, ◌<◌, ◌≤◌, min, true, ◌&&◌, leb, ◌⊎◌, List, length, is_some, Some, None, Option, unwrap_or, sym, refl, ap, ◌∙◌, subst, inl, inr, ⊎_elim, arith}
+use Rattle.std.proofs.Common.{◌*◌, ◌≡◌, ℕ, ◌+◌, ◌/◌, ◌<◌, ◌≤◌, min, true, ◌&&◌, leb, ◌⊎◌, List, length, is_some, Some, None, Option, unwrap_or, sym, refl, ap, ◌∙◌, subst, inl, inr, ⊎_elim, arith}
 use Rattle.journal_bytes.proofs.Accepting.{AcceptedAt, accepted_parts, accepted_from, each_accepted, accepted_changed}
 use Rattle.journal_bytes.proofs.Changing.{all_records, held_in, added_only, kept_only}
 use Rattle.journal_bytes.proofs.Putting.{Only, stable_first, stable_second, stable_records, added_first, added_second, added_there, added_before, stable_long, added_long}
@@ -133,13 +133,23 @@ exact_in bs start size s =
           ∙ some_is (record_from bs (record_start start i)) (s.each i (omega arith))));
     }
 
+-- Each section of a journal that serves all its stations is accepted.
+pub section_accepted : (bs : List ℕ) (n s : ℕ) → served_in bs n ≡ n → s < n → counts_bytes ≤ size_of bs n → AcceptedAt bs (start_of bs n s) (size_of bs n)
+section_accepted bs n s h l wide =
+    let p = served_parts bs n (omega arith) h in
+    accepted_parts bs (start_of bs n s) (size_of bs n) wide (within_bytes bs n s l) (each_accepted bs (size_of bs n) 0 n s p.1 (omega arith) (omega arith))
+
+-- So it counts no more records than it has room for.
+pub room_there : (bs : List ℕ) (n s size start : ℕ) → served_in bs n ≡ n → s < n → size ≡ size_of bs n → start ≡ s * size → counts_bytes ≤ size → counted bs start ≤ capacity_of size
+room_there bs n s size start h l z e wide =
+    let wide_there : counts_bytes ≤ size_of bs n = omega arith in
+    rw (e, z) (section_accepted bs n s h l wide_there).room
+
 pub sound_from : (bs : List ℕ) (n : ℕ) → served_in bs n ≡ n → Sound bs n
 sound_from bs n h = record {
   again = h;
   same = ap (sections bs) h;
-  exact = λ s l wide.
-      let p = served_parts bs n (omega arith) h in
-      subst (Exact bs (start_of bs n s)) (sym (section_there bs n s l)) (exact_in bs (start_of bs n s) (size_of bs n) (accepted_parts bs (start_of bs n s) (size_of bs n) wide (within_bytes bs n s l) (each_accepted bs (size_of bs n) 0 n s p.1 (omega arith) (omega arith))));
+  exact = λ s l wide. subst (Exact bs (start_of bs n s)) (sym (section_there bs n s l)) (exact_in bs (start_of bs n s) (size_of bs n) (section_accepted bs n s h l wide));
 }
 
 -- A journal made again serves as many.

@@ -1,14 +1,14 @@
 -- The ways through the calls: what each finds, answers and leaves of the bytes.
 use Rattle.std.proofs.Common.{refl, Ok, Err, Result, cond, nat_lt, min, ◌≡◌, ℕ, ◌+◌, ◌*◌, ◌<◌, ◌≤◌, List, Some, unwrap_or, sym, ap, ◌∙◌, subst, arith}
 use Rattle.journal_bytes.proofs.Changing.{written_means, forced_means, cut_means}
-use Rattle.journal_bytes.proofs.Keeping.{written_served, kept_served, sound_from}
+use Rattle.journal_bytes.proofs.Keeping.{written_served, kept_served, section_accepted, sound_from}
 use Rattle.journal_bytes.proofs.Sections.{within_bytes, size_small, length_sections, section_there, capacity_there, stable_there, unforced_there}
 use Rattle.journal_bytes.specs.Changes.{record_added, first_kept, bytes_written, bytes_kept, bytes_forced, bytes_cut}
 use Rattle.journal_bytes.specs.Found.{CountsOf, FoundAt, Found}
 use Rattle.journal_bytes.specs.Journals.{journal_bytes, Rewritten}
 use Rattle.journal_bytes.specs.Opening.{served_in}
 use Rattle.journal_bytes.specs.declared.byte_journal.ByteJournal.{ByteJournal}
-use Rattle.journal_bytes.specs.Layout.{fallback, record_start, record_in, records_in, start_of, size_of, stable_of, unforced_of, room_of, sections}
+use Rattle.journal_bytes.specs.Layout.{counts_bytes, fallback, record_start, record_in, records_in, start_of, size_of, stable_of, unforced_of, room_of, sections}
 use Rattle.journal_bytes.specs.declared.layout.Counts.{Counts}
 use Rattle.journal.specs.Bytes.{record_from}
 use Rattle.journal.specs.Meaning.{written, forced, cut_to, record_at}
@@ -18,6 +18,7 @@ use Rattle.std.proofs.lemmas.List.FromFn.{length-map-range_with_len, get_or-map-
 use Rattle.std.proofs.lemmas.Option.{slice_get-get_or}
 use Rattle.std.proofs.lemmas.Bool.{lt-ltb, le-ltb}
 use Rattle.std.specs.List.{slice_get}
+use Rattle.std.specs.Option.{IsSome}
 use Rattle.std.specs.Result.{result_ok}
 
 module _ (bs : List ℕ) (n s : ℕ) where
@@ -94,17 +95,26 @@ module _ (bs : List ℕ) (n s : ℕ) where
           pub cut_after : sections cs n ≡ cut_to k (sections bs n) s
           cut_after = rw cut_bytes (cut_means bs n s k)
 
-    -- Reading one of the stable records.
-    pub read_some : (i : ℕ) (x : Record) → i < c.stable → x ≡ unwrap_or (record_from bs (record_start c.start i)) fallback → Some x ≡ record_at (sections bs n) s i
-    read_some i x l e =
-        let k = f.counts in
-        let start = start_of bs n s in
-        let count = stable_of bs n s in
-        let within : i < count = omega arith in
-        sym (ap (λ p. slice_get p.stable i) (section_there bs n s f.served)
-        ∙ (slice_get-get_or (records_in bs start 0 count) i fallback (omega (arith, length-map-range_with_len (record_in bs start) 0 count))
-        ∙ ap Some (get_or-map-range_with_len (record_in bs start) 0 count i i fallback within (omega arith) ∙ sym (e ∙ ap (λ v. unwrap_or (record_from bs (record_start v i)) fallback) k.start_is))))
+    -- Reading one of the stable records, which the bytes at its place are.
+    module _ (i : ℕ) (l : i < c.stable) where
+      pub is_record : served_in bs n ≡ n → IsSome (record_from bs (record_start c.start i))
+      is_record h =
+          let k = f.counts in
+          let wide : counts_bytes ≤ size_of bs n = omega arith in
+          let a = section_accepted bs n s h f.served wide in
+          rw k.start_is (a.each i (omega arith))
+
+      pub read_some : (x : Record) → record_from bs (record_start c.start i) ≡ Some x → Some x ≡ record_at (sections bs n) s i
+      read_some x e =
+          let k = f.counts in
+          let start = start_of bs n s in
+          let count = stable_of bs n s in
+          let within : i < count = omega arith in
+          let there : record_in bs start i ≡ x = rw k.start_is at (ap (λ o. unwrap_or o fallback) e) in
+          sym (ap (λ p. slice_get p.stable i) (section_there bs n s f.served)
+          ∙ (slice_get-get_or (records_in bs start 0 count) i fallback (omega (arith, length-map-range_with_len (record_in bs start) 0 count))
+          ∙ ap Some (get_or-map-range_with_len (record_in bs start) 0 count i i fallback within (omega arith) ∙ there)))
 
 -- A journal whose bytes a call leaves as they are.
 pub unchanged : (j : ByteJournal) (bs : List ℕ) → journal_bytes j ≡ bs → Rewritten j j bs
-unchanged j bs e = record { borrowed = refl; stations = refl; bytes = e; sound = sound_from j.bytes.now j.stations j.again }
+unchanged j bs e = record { stations = refl; bytes = e; sound = sound_from j.bytes.now j.stations j.again }

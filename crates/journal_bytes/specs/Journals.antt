@@ -25,10 +25,8 @@ journal_lenders j = j.bytes.ghost_name ∷ []
 abbrev pub JournalSound : ByteJournal → Type 0
 JournalSound j = Sound (journal_bytes j) (journal_stations j)
 
--- The journal j as k, with the bytes bs: it borrows the same bytes and serves as many stations, and bs are a sound
--- journal's.
+-- What a call makes of the journal j: k, which serves as many stations, with the bytes bs, which are a sound journal's.
 pub record Rewritten (j k : ByteJournal) (bs : List ℕ) : Type 0 where
-  pub borrowed : k.bytes.ghost_name ≡ j.bytes.ghost_name
   pub stations : journal_stations k ≡ journal_stations j
   pub bytes : journal_bytes k ≡ bs
   pub sound : JournalSound k

@@ -17,9 +17,9 @@ pub struct ByteJournal<'a> {
 }
 
 impl<'a> ByteJournal<'a> {
-    ghost use Rattle.std.specs.Prelude.{◌≡◌};
+    ghost use Rattle.std.specs.Prelude.{◌≡◌, [], ◌∷◌};
     ghost use Rattle.journal_bytes.specs.Found.{Found};
-    ghost use Rattle.journal_bytes.specs.Journals.{journal_bytes, journal_stations, journal_sections, JournalSound};
+    ghost use Rattle.journal_bytes.specs.Journals.{journal_bytes, journal_stations, journal_sections, journal_lenders, JournalSound};
     ghost use Rattle.journal_bytes.specs.Opening.{served_in, opened};
     ghost use Rattle.journal_bytes.specs.Sizes.{Sizes};
 
@@ -28,7 +28,7 @@ impl<'a> ByteJournal<'a> {
     /// It serves no station if it is for none or for more than 8, or if the bytes are no journal's.
     pub fn new(bytes: &'a mut [u8], stations: u8) -> ByteJournal<'a>
         ensures bytes { journal_bytes result ≡ bytes.old }
-        ensures lent { result.bytes.ghost_name ≡ bytes.entry.ghost_name }
+        ensures lent { journal_lenders result ≡ bytes.entry.ghost_name ∷ [] }
         ensures served { journal_stations result ≡ served_in bytes.old stations }
         ensures meaning { journal_sections result ≡ opened bytes.old stations }
         ensures sound { JournalSound result }

@@ -1,13 +1,12 @@
 //! Where the sections lie in the bytes: counts and records, read and put.
-ghost use Rattle.std.specs.Prelude.{◌≡◌, ◌+◌, ◌*◌, ◌^◌, ◌<◌, ◌≤◌, length};
+ghost use Rattle.std.specs.Prelude.{◌≡◌, ◌+◌, ◌*◌, ◌^◌, ◌<◌, ◌≤◌, length, IsSome, Some};
 ghost use Rattle.journal_bytes.specs.Changes.{put_count, put_record};
-ghost use Rattle.journal_bytes.specs.Layout.{most_bytes, section_size, capacity_of, count_from, record_start, fallback};
+ghost use Rattle.journal_bytes.specs.Layout.{most_bytes, section_size, capacity_of, count_from, record_start};
 ghost use Rattle.journal.specs.Bytes.{record_from};
 ghost use Rattle.journal.specs.Limits.{record_bytes};
-ghost use Rattle.std.specs.Option.{unwrap_or};
 
 use journal::records::RECORD_BYTES;
-use journal::{Kind, Record, decode};
+use journal::{Record, decode};
 
 // Only so many bytes count.
 pub(crate) const MOST_BYTES: usize = 65536;
@@ -24,35 +23,35 @@ pub(crate) struct Counts {
     pub(crate) unforced: usize,
     ghost ordered: { stable + unforced ≤ capacity },
     ghost few: { capacity < most_bytes },
-    ghost near: { start ≤ most_bytes * 256 },
+    ghost near: { record_start start capacity < 2 ^ 64 },
 }
 
 impl Counts {
-    ghost use Rattle.std.specs.Prelude.{◌≡◌, ◌+◌, ◌*◌, ◌≤◌, length};
+    ghost use Rattle.std.specs.Prelude.{◌≡◌, ◌+◌, ◌≤◌, length};
     ghost use Rattle.journal_bytes.specs.Found.{CountsOf};
-    ghost use Rattle.journal_bytes.specs.Layout.{most_bytes, record_start};
+    ghost use Rattle.journal_bytes.specs.Layout.{most_bytes, counts_bytes, capacity_of, record_start};
+    ghost use Rattle.journal_bytes.specs.Opening.{counted};
 
-    // The counts of a section, none of which goes beyond the room that there is.
+    // The counts of a section that counts no more records than it has room for.
     pub(crate) fn of(bytes: &[u8], start: usize, size: usize) -> Counts
         requires within { start + size ≤ length bytes.now }
         requires small { size ≤ most_bytes }
-        requires near { start ≤ most_bytes * 256 }
+        requires room { counts_bytes ≤ size → counted bytes.now start ≤ capacity_of size }
         ensures { CountsOf bytes.now start size result }
     {
-        let capacity = capacity_of(size);
-        if capacity == 0 {
+        if size < COUNTS_BYTES {
             return Counts {
                 start,
-                capacity,
+                capacity: 0,
                 stable: 0,
                 unforced: 0,
             };
         }
-        let stable = count_at(bytes, start).min(capacity);
-        let unforced = count_at(bytes, start + 2).min(capacity - stable);
+        let stable = count_at(bytes, start);
+        let unforced = count_at(bytes, start + 2);
         Counts {
             start,
-            capacity,
+            capacity: capacity_of(size),
             stable,
             unforced,
         }
@@ -99,19 +98,13 @@ pub(crate) fn put_record(bytes: &mut [u8], at: usize, line: Record)
     bytes[at..at + RECORD_BYTES].copy_from_slice(&line.encode());
 }
 
-// What bytes that are no record are read as; the records of a journal never are such.
-const FALLBACK: Record = Record {
-    kind: Kind::Opening,
-    revision: 0,
-    argument: 0,
-};
-
-// The record in four bytes. Those that a journal counts always are a record.
+// The record in four bytes that are one.
 pub(crate) fn record_from(bytes: &[u8], at: usize) -> Record
-    requires { at + record_bytes ≤ length bytes.now }
-    ensures { result ≡ unwrap_or (record_from bytes.now at) fallback }
+    requires within { at + record_bytes ≤ length bytes.now }
+    requires record { IsSome (record_from bytes.now at) }
+    ensures { record_from bytes.now at ≡ Some result }
 {
-    decode(&bytes[at..]).map_or(FALLBACK, |(line, _)| line)
+    decode(&bytes[at..]).unwrap().0
 }
 
 // How many bytes each section has.

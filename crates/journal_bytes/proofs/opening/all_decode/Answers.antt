@@ -53,8 +53,8 @@ pub returns : goal.returns
 returns c =
     let bs = c.args.bytes.now in
     let groups = YieldsList-from_shown_while chunks_exact_steps (λ y. y.now) (λ s. fours (length (chunks_exact_rest s) / record_bytes) (chunks_exact_rest s)) (λ s. chunks_exact_size s ≡ record_bytes)
-        (λ s t size end. let short = end.1.0 in length-fours _ (chunks_exact_rest s) ∙ (omega arith))
-        (λ s x t size step. (step.0 ∙ size, rw step.1.0 (fours_more x.now (chunks_exact_rest t) (step.1.1 ∙ size))))
-        c.chunks_exact.result c.chunks_exact.ensures.size in
+    (λ s t size end. let short = end.1.0 in length-fours _ (chunks_exact_rest s) ∙ (omega arith))
+    (λ s x t size step. (step.0 ∙ size, rw step.1.0 (fours_more x.now (chunks_exact_rest t) (step.1.1 ∙ size))))
+    c.chunks_exact.result c.chunks_exact.ensures.size in
     all_from_yields_List (λ four. is_some (decoded four)) _ _ _ c.all.ensures.ran (YieldsList-from_take c.args.records (YieldsList-at c.take.ensures.source groups) c.take.ensures.count) (λ x b q k. search rules)
     ∙ rw c.chunks_exact.ensures.rest (all_fours c.args.records (length bs / record_bytes) bs (omega arith))

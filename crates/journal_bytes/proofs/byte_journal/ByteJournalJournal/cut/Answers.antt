@@ -22,7 +22,6 @@ pub returns-clause-bytes : goal.returns-clause-bytes
 returns-clause-bytes c =
     let j = c.args.self.now in
     record {
-      borrowed = refl;
       stations = refl;
       bytes = cut_bytes j.bytes.now j.stations c.args.station _ c.in_ok-counts.ensures _ _ c.keep.ensures c.args.kept (omega arith);
       sound = sound_from _ j.stations (cut_again j.bytes.now j.stations c.args.station _ c.in_ok-counts.ensures _ _ c.keep.ensures c.args.kept (omega arith) j.again);

@@ -27,7 +27,6 @@ pub returns-clause-bytes : goal.returns-clause-bytes
 returns-clause-bytes c =
     let j = c.args.self.now in
     record {
-      borrowed = refl;
       stations = refl;
       bytes = written_room j.bytes.now j.stations c.args.station _ c.in_ok-counts.ensures _ c.args.line (omega arith) c.add_record.ensures;
       sound = sound_from _ j.stations (written_again j.bytes.now j.stations c.args.station _ c.in_ok-counts.ensures _ c.args.line (omega arith) c.add_record.ensures j.again);
