@@ -1,12 +1,13 @@
 -- A whole step under a fuse: what performing its acts one by one comes to.
-use Rattle.std.proofs.Common.{◌≡◌, ℕ, zero, suc, ◌+◌, ◌<◌, ◌≤◌, true, false, cond, List, [], ◌∷◌, length, take, Ok, Err, Result, sym, refl, ap, ◌∙◌, ⊎_elim, arith}
+use Rattle.std.proofs.Common.{◌≡◌, ℕ, zero, suc, ◌+◌, ◌<◌, ◌≤◌, true, false, cond, List, [], ◌∷◌, length, take, Ok, Err, Result, refl, ap, ◌∙◌, arith}
 use Rattle.actor.proofs.Performed.{dark_performed}
 use Rattle.actor.specs.Acting.{Acting, begun, burnt, after, performed}
 use Rattle.actor.specs.Store.{Store, done, all_done, journal_cut, answer_under_fuse, done_under_fuse}
 use Rattle.actor.specs.declared.fuse.Fuse.{Fuse}
 use Rattle.actor.specs.declared.fuse.PowerCut.{PowerCut}
 use Rattle.station.specs.Acts.{Act}
-use Rattle.std.proofs.lemmas.Bool.{cases_lt, lt-ltb, le-ltb, cond-true, cond-false}
+use Rattle.std.proofs.lemmas.Bool.{lt-ltb, le-ltb}
+use Rattle.std.proofs.lemmas.Bool.Decides.{nat_tests}
 
 -- station s under the fuse f, with n acts done
 abbrev lit : ℕ → Fuse → ℕ → Store → Acting
@@ -52,14 +53,14 @@ answer_of l = cond l.dark (Err (record { after = l.done })) (Ok l.done)
 pub store_under_fuse : (s : ℕ) (acts : List Act) (f : Fuse) (w : Store) → done_under_fuse s acts f.acts f.kept w ≡ (performed acts (begun s f w)).store
 unfolding done_under_fuse
 store_under_fuse s acts f w =
-    ⊎_elim (λ h. cond-true _ _ _ (lt-ltb f.acts (length acts) h) ∙ sym (ap (λ (x : Acting). x.store) (fuse_burns f.acts acts s f 0 w (omega arith) h)))
-    (λ h. cond-false _ _ _ (le-ltb f.acts (length acts) h) ∙ sym (ap (λ (x : Acting). x.store) (fuse_holds acts s f 0 w (omega arith))))
-    (cases_lt f.acts (length acts))
+    let burns = fuse_burns f.acts acts s f 0 w (omega arith) in
+    let holds = fuse_holds acts s f 0 w in
+    grind (arith, nat_tests, burns, holds)
 
 -- and the answer of the step is the answer of the station then
 pub answer_of_step : (s : ℕ) (w : Store) (f : Fuse) (acts : List Act) → answer_under_fuse f.acts acts ≡ answer_of (performed acts (begun s f w))
 unfolding answer_under_fuse
 answer_of_step s w f acts =
-    ⊎_elim (λ h. cond-true _ _ _ (lt-ltb f.acts (length acts) h) ∙ sym (ap answer_of (fuse_burns f.acts acts s f 0 w (omega arith) h)))
-    (λ h. cond-false _ _ _ (le-ltb f.acts (length acts) h) ∙ (ap (λ n. Ok n) (omega arith) ∙ sym (ap answer_of (fuse_holds acts s f 0 w (omega arith)))))
-    (cases_lt f.acts (length acts))
+    let burns = fuse_burns f.acts acts s f 0 w (omega arith) in
+    let holds = fuse_holds acts s f 0 w in
+    grind (arith, nat_tests, burns, holds)
