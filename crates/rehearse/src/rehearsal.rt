@@ -2,12 +2,14 @@
 mod scene;
 mod telling;
 
-use crate::script::{COORDINATOR, Call, Cue, Fuse, REVISION, Scenario, set_of};
+use crate::script::{COORDINATOR, Call, Cue, REVISION, Scenario, set_of};
 use crate::words::Done;
 use journal::calls::Journal;
 use presumption::Presumption;
+use run::Fuse;
 use run::refusals::Refusal;
 use run::run::Run;
+use station::sets::StationSet;
 use std::io;
 
 /// More deliveries than a post can call for: 18 for each of the 64 messages that can wait.
@@ -15,16 +17,16 @@ const MOST_DELIVERIES: u16 = 64 * 18;
 
 /// A run, and where it is told.
 #[derive(Drop)]
-pub struct Rehearsal<'a, R, J, P> {
+pub struct Rehearsal<'a, R, J: Journal, P: Presumption> {
     rt: &'a R,
     run: Run<J, P>,
 }
 
-/// What became of the revision: the bits of the stations where it is installed, and where dropped.
+/// What became of the revision: where it is installed, and where dropped.
 #[derive(Clone, Copy, PartialEq, Eq)]
 pub struct Fate {
-    installed: u8,
-    dropped: u8,
+    pub installed: StationSet,
+    pub dropped: StationSet,
 }
 
 /// Plays a scenario in a fresh run over a journal. Answers what became of its revision, if it was opened.
@@ -65,8 +67,8 @@ impl<'a, R: Print, J: Journal, P: Presumption> Rehearsal<'a, R, J, P> {
     // What became of the revision so far, if it was opened.
     fn fate(&self) -> Option<Fate> {
         self.run.as_run(REVISION).map(|row| Fate {
-            installed: row.installed.bits(),
-            dropped: row.dropped.bits(),
+            installed: row.installed,
+            dropped: row.dropped,
         })
     }
 
@@ -99,17 +101,17 @@ impl<'a, R: Print, J: Journal, P: Presumption> Rehearsal<'a, R, J, P> {
         Ok(())
     }
 
-    // Makes a call. Power fails only in a delivery.
+    // Makes a call.
     fn answer(&mut self, call: Call) -> Result<Done, Refusal> {
         let run = &mut self.run;
-        let Fuse { acts, kept } = Fuse::LASTING;
+        let fuse = Fuse::LASTING;
         match call {
             Call::Open { stations } => run.open(COORDINATOR, set_of(stations)).map(Done::Revision),
-            Call::Close => run.close(REVISION, acts, kept).map(Done::Acts),
-            Call::GiveUp => run.give_up(REVISION, acts, kept).map(Done::Acts),
-            Call::Reject { station } => run.reject(REVISION, station, acts, kept).map(Done::Acts),
-            Call::Inquire { station } => run.inquire(REVISION, station, acts, kept).map(Done::Acts),
-            Call::Deliver(fuse) => run.deliver(0, false, fuse.acts, fuse.kept).map(Done::Acts),
+            Call::Close => run.close(REVISION, fuse).map(Done::Acts),
+            Call::GiveUp => run.give_up(REVISION, fuse).map(Done::Acts),
+            Call::Reject { station } => run.reject(REVISION, station, fuse).map(Done::Acts),
+            Call::Inquire { station } => run.inquire(REVISION, station, fuse).map(Done::Acts),
+            Call::Deliver(fuse) => run.deliver(0, false, fuse).map(Done::Acts),
             Call::Cut { station, kept } => run.cut(station, kept).map(|()| Done::Nothing),
             Call::Restart { station } => run.restart(station).map(|()| Done::Nothing),
         }

@@ -1,5 +1,6 @@
 //! The scenarios that are rehearsed.
-use crate::script::{Call, Cue, Fuse, Scenario};
+use crate::script::{Call, Cue, Scenario};
+use run::Fuse;
 
 const OPEN: Cue = Cue::Make(Call::Open { stations: &[1, 2] });
 

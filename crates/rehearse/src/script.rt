@@ -1,4 +1,5 @@
 //! Scripts: a scenario is a list of cues, and most cues are a call of the engine.
+use run::Fuse;
 use station::sets::StationSet;
 
 /// Each run has so many stations.
@@ -10,21 +11,6 @@ pub const COORDINATOR: u8 = 0;
 /// The only revision of each scenario.
 pub const REVISION: u16 = 0;
 
-/// In a step of more acts the power fails after so many, and so many unforced records are kept.
-#[derive(Clone, Copy, Debug, PartialEq, Eq)]
-pub struct Fuse {
-    pub acts: u8,
-    pub kept: u8,
-}
-
-impl Fuse {
-    /// No step has as many acts, so this fuse never burns.
-    pub const LASTING: Fuse = Fuse {
-        acts: u8::MAX,
-        kept: 0,
-    };
-}
-
 /// A call of the engine.
 #[derive(Clone, Copy)]
 pub enum Call {
@@ -34,7 +20,7 @@ pub enum Call {
     GiveUp,
     Reject { station: u8 },
     Inquire { station: u8 },
-    /// The first message that waits.
+    /// The first message that waits, under this fuse. Power fails in no other call.
     Deliver(Fuse),
     Cut { station: u8, kept: u8 },
     Restart { station: u8 },
@@ -59,8 +45,7 @@ pub struct Scenario {
 
 /// The set of these stations. No constant can hold one.
 pub fn set_of(stations: &[u8]) -> StationSet {
-    stations.iter().fold(
-        StationSet::from_bits(0),
-        |set, station| set.insert(*station),
-    )
+    stations
+        .iter()
+        .fold(StationSet::default(), |set, station| set.insert(*station))
 }

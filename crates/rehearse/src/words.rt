@@ -1,8 +1,9 @@
 //! The words in which a rehearsal is told.
-use crate::script::{Call, Fuse, set_of};
-use journal::MAX_STATIONS;
+use crate::rehearsal::Fate;
+use crate::script::{Call, set_of};
 use journal::records::{Kind, Record};
 use presumption::outcome::Outcome;
+use run::Fuse;
 use run::refusals::Refusal;
 use station::coordinator::CoordinatorEntry;
 use station::messages::{Message, MessageKind};
@@ -56,7 +57,7 @@ impl fmt::Display for Shown<Result<Done, Refusal>> {
             Ok(Done::Acts(1)) => f.write_str("1 act"),
             Ok(Done::Acts(acts)) => write!(f, "{acts} acts"),
             Ok(Done::Nothing) => f.write_str("done"),
-            Err(refusal) => write!(f, "refused with {}", refusal.number()),
+            Err(refusal) => write!(f, "refused with {}", u8::from(refusal)),
         }
     }
 }
@@ -100,10 +101,10 @@ impl fmt::Display for Shown<Message> {
 impl fmt::Display for Shown<Record> {
     fn fmt<W: fmt::Write>(&self, f: &mut fmt::Formatter<W>) -> fmt::Result {
         let Record { kind, argument, .. } = self.0;
-        let letter = kind.letter() as char;
+        let letter = char::from(u8::from(kind));
         match kind {
             Kind::Opening | Kind::Commit | Kind::Abort => {
-                write!(f, "{letter} for {}", Shown(StationSet::from_bits(argument)))
+                write!(f, "{letter} for {}", Shown(StationSet::from(argument)))
             }
             Kind::End => write!(f, "{letter}"),
             Kind::Prepared | Kind::Committed | Kind::Aborted => {
@@ -115,15 +116,7 @@ impl fmt::Display for Shown<Record> {
 
 impl fmt::Display for Shown<StationSet> {
     fn fmt<W: fmt::Write>(&self, f: &mut fmt::Formatter<W>) -> fmt::Result {
-        f.write_str("{")?;
-        let first = self.0.first();
-        for station in 0..MAX_STATIONS {
-            if self.0.contains(station) {
-                let separator = if first == Some(station) { "" } else { ", " };
-                write!(f, "{separator}{station}")?;
-            }
-        }
-        f.write_str("}")
+        f.debug_set().entries(self.0).finish()
     }
 }
 
@@ -154,9 +147,9 @@ impl fmt::Display for Shown<CoordinatorEntry> {
     }
 }
 
-/// Where a revision is marked.
+// Where a revision is marked.
 #[derive(Clone, Copy)]
-pub struct Places(pub StationSet);
+struct Places(StationSet);
 
 impl fmt::Display for Places {
     fn fmt<W: fmt::Write>(&self, f: &mut fmt::Formatter<W>) -> fmt::Result {
@@ -164,5 +157,12 @@ impl fmt::Display for Places {
             return f.write_str("nowhere");
         }
         write!(f, "at {}", Shown(self.0))
+    }
+}
+
+impl fmt::Display for Fate {
+    fn fmt<W: fmt::Write>(&self, f: &mut fmt::Formatter<W>) -> fmt::Result {
+        let (installed, dropped) = (Places(self.installed), Places(self.dropped));
+        write!(f, "installed {installed}, dropped {dropped}")
     }
 }

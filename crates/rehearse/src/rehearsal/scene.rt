@@ -82,12 +82,12 @@ impl Change {
 impl<R: Print, J: Journal, P: Presumption> Rehearsal<'_, R, J, P> {
     /// The scene now, at a station.
     pub fn scene(&self, station: u8) -> Scene {
-        let row = self.run.as_run(REVISION);
+        let fate = self.fate();
         Scene {
             station,
             power: self.run.power(station),
-            installed: row.is_some_and(|row| row.installed.contains(station)),
-            dropped: row.is_some_and(|row| row.dropped.contains(station)),
+            installed: fate.is_some_and(|fate| fate.installed.contains(station)),
+            dropped: fate.is_some_and(|fate| fate.dropped.contains(station)),
             stable: self.run.journal().stable_len(station),
             unforced: self.run.journal().unforced_len(station),
             waiting: self.run.waiting(),

@@ -2,7 +2,7 @@
 use crate::rehearsal::Rehearsal;
 use crate::rehearsal::scene::{Change, Scene};
 use crate::script::{Call, REVISION};
-use crate::words::{Done, Places, Shown};
+use crate::words::{Done, Shown};
 use journal::calls::Journal;
 use presumption::Presumption;
 use run::refusals::Refusal;
@@ -62,13 +62,11 @@ impl<R: Print, J: Journal, P: Presumption> Rehearsal<'_, R, J, P> {
         )
     }
 
-    /// Where the revision is installed, and where dropped.
+    /// What became of the revision, if it was opened.
     pub fn show_revision(&self) -> io::Result<()> {
-        let Some(row) = self.run.as_run(REVISION) else {
-            return Ok(());
-        };
-        let installed = Places(row.installed);
-        let dropped = Places(row.dropped);
-        println!(self.rt; "revision {REVISION}: installed {installed}, dropped {dropped}")
+        if let Some(fate) = self.fate() {
+            println!(self.rt; "revision {REVISION}: {fate}")?;
+        }
+        Ok(())
     }
 }
