@@ -1,7 +1,7 @@
 //! Numbers that look like chance and come from a seed.
 
 /// A generator of numbers.
-#[derive(Clone, Copy)]
+#[derive(Clone, Copy, PartialEq, Eq, Debug)]
 pub struct Dice {
     state: u64,
 }
@@ -21,7 +21,7 @@ impl Dice {
         self.state >> 33
     }
 
-    /// A number below a limit; 0 where the limit is 0.
+    /// A number below a limit; 0 where the limit is 0, and then the dice are not rolled.
     pub fn below(&mut self, limit: usize) -> usize {
         if limit == 0 {
             return 0;
@@ -46,9 +46,7 @@ impl Dice {
 
     /// One of some values; the value `other` where there are none.
     pub fn pick<T: Copy>(&mut self, values: &[T], other: T) -> T {
-        match values.get(self.below(values.len())) {
-            Some(value) => *value,
-            None => other,
-        }
+        let place = self.below(values.len());
+        values.get(place).copied().unwrap_or(other)
     }
 }

@@ -1,12 +1,10 @@
 //! Worked examples, with the answer that the documents give to the last call of each.
-use crate::dice::Dice;
-use crate::player::{Leaning, Plan, play_under};
-use crate::seen::{Seen, Trouble, agree};
-use crate::tally::{PLAIN, Tally};
+use crate::player::{Game, Leaning, Plan, Player};
+use crate::seen::{Seen, Spot, Trouble};
+use crate::tally::PLAIN;
 use journal::table::Table;
 use model::sections::Log;
-use model::words::{Call, Verb};
-use std::alloc::Global;
+use model::words::{Call, Outage, Verb};
 
 /// Some calls on a run of three stations, and what the last of them answers under presumed abort and presumed commit.
 #[derive(Clone, Copy)]
@@ -85,16 +83,23 @@ const RESTART_1: Call = Call {
     ..PLAIN
 };
 
-/// Power for so many acts.
-const DELIVER_1: Call = Call { fuse: 1, ..DELIVER };
-
-const DELIVER_1_KEPT: Call = Call {
-    fuse: 1,
-    kept: 1,
+/// Power for one act.
+const DELIVER_1: Call = Call {
+    outage: Outage { after: 1, kept: 0 },
     ..DELIVER
 };
 
-const DELIVER_3: Call = Call { fuse: 3, ..DELIVER };
+/// Power for one act, whose record is kept.
+const DELIVER_1_KEPT: Call = Call {
+    outage: Outage { after: 1, kept: 1 },
+    ..DELIVER
+};
+
+/// Power for three acts.
+const DELIVER_3: Call = Call {
+    outage: Outage { after: 3, kept: 0 },
+    ..DELIVER
+};
 
 // An example with one answer under both presumptions.
 const fn alike(calls: &'static [Call], answer: Seen) -> Example {
@@ -107,11 +112,7 @@ const fn alike(calls: &'static [Call], answer: Seen) -> Example {
 
 // An example that is refused under both presumptions.
 const fn refused(calls: &'static [Call], number: u8) -> Example {
-    Example {
-        calls,
-        abort: Seen::Refused(number),
-        commit: Seen::Refused(number),
-    }
+    alike(calls, Seen::Refused(number))
 }
 
 // The examples that are refused, by their numbers.
@@ -202,39 +203,29 @@ fn answered() -> [Example; 14] {
     ]
 }
 
-// Plays some examples under one presumption, and compares the last answer of each with the documents'.
-fn play_some(
-    heap: Global,
-    examples: &[Example],
-    leaning: Leaning,
-    dice: &mut Dice,
-    tally: &mut Tally,
-) -> Result<(), Trouble> {
-    for example in examples {
+impl Player {
+    // Plays an example under one presumption, and compares the last answer with the documents'.
+    fn play_example(&mut self, example: Example, leaning: Leaning) -> Result<(), Trouble> {
         let expected = match leaning {
             Leaning::Abort => example.abort,
             _ => example.commit,
         };
-        let table = Table::new(heap, 3)?;
         let plan = Plan::Listed(example.calls);
-        let _ = play_under(heap, table, Log::table(heap, 3), leaning, plan, dice, tally)?;
-        agree(
-            "answer of engine and model, and of the documents",
-            0,
-            0,
-            tally.answer,
-            expected,
-        )?;
-        tally.examples = tally.examples.wrapping_add(1);
+        let table = Table::new(self.heap, 3)?;
+        self.play(table, Log::table(self.heap, 3), Game { leaning, plan })?;
+        let spot = Spot::of("answer of engine and model, and of the documents");
+        spot.agree(self.tally.answer, expected)?;
+        self.tally.examples = self.tally.examples.saturating_add(1);
+        Ok(())
     }
-    Ok(())
-}
 
-/// Plays all examples under both presumptions.
-pub fn play_examples(heap: Global, dice: &mut Dice, tally: &mut Tally) -> Result<(), Trouble> {
-    for leaning in [Leaning::Abort, Leaning::Commit] {
-        play_some(heap, &refusals(), leaning, dice, tally)?;
-        play_some(heap, &answered(), leaning, dice, tally)?;
+    /// Plays all examples under both presumptions.
+    pub fn play_examples(&mut self) -> Result<(), Trouble> {
+        for leaning in [Leaning::Abort, Leaning::Commit] {
+            for example in refusals().into_iter().chain(answered()) {
+                self.play_example(example, leaning)?;
+            }
+        }
+        Ok(())
     }
-    Ok(())
 }

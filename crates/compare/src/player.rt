@@ -1,7 +1,7 @@
 //! Lists of calls, played on both sides at once.
 use crate::dice::Dice;
-use crate::drawing::draw_call;
-use crate::seen::{Seen, Trouble, agree, answer_seen, value_seen};
+use crate::drawing::Drawing;
+use crate::seen::{Seen, Spot, Trouble, answer_seen, model_seen};
 use crate::styles::Style;
 use crate::tally::{PLAIN, Tally};
 use crate::views::agree_on_run;
@@ -10,16 +10,18 @@ use assurance::calls::{Call as EngineCall, perform};
 use journal::calls::Journal;
 use model::sections::Log;
 use model::whole::Model;
-use model::words::{Call, Verb, presumed_abort, presumed_commit};
+use model::words::{
+    Call, Outage, Presumption as ModelPresumption, Verb, presumed_abort, presumed_commit,
+};
 use presumption::Presumption;
 use presumption::abort::PresumedAbort;
 use presumption::commit::PresumedCommit;
 use run::run::Run;
 use station::sets::StationSet;
-use std::alloc::Global;
+use std::alloc::{AllocError, Global};
 
 /// Which presumption a list is played under.
-#[derive(Clone, Copy)]
+#[derive(Clone, Copy, PartialEq, Eq, Debug)]
 pub enum Leaning {
     Abort,
     Commit,
@@ -31,6 +33,13 @@ pub enum Leaning {
 pub enum Plan {
     Drawn(Style, usize),
     Listed(&'static [Call]),
+}
+
+/// A plan, and the presumption that it is played under.
+#[derive(Clone, Copy)]
+pub struct Game {
+    pub leaning: Leaning,
+    pub plan: Plan,
 }
 
 impl Plan {
@@ -45,11 +54,8 @@ impl Plan {
     // The call at a turn.
     fn call(&self, turn: usize, dice: &mut Dice, model: &Model) -> Call {
         match self {
-            Plan::Drawn(style, _) => draw_call(dice, style, turn, model),
-            Plan::Listed(calls) => match calls.get(turn) {
-                Some(call) => *call,
-                None => PLAIN,
-            },
+            Plan::Drawn(style, _) => Drawing { dice, style, model }.call(turn),
+            Plan::Listed(calls) => calls.get(turn).copied().unwrap_or(PLAIN),
         }
     }
 }
@@ -63,8 +69,7 @@ fn engine_call(call: &Call) -> EngineCall {
         set,
         place,
         copy,
-        fuse,
-        kept,
+        outage: Outage { after: fuse, kept },
     } = *call;
     let set = StationSet::from_bits(set);
     match verb {
@@ -119,74 +124,70 @@ fn make<J: Journal, P: Presumption>(
     model: &mut Model,
     call: &Call,
 ) -> Result<Seen, Trouble> {
-    let engine = value_seen(perform(run, engine_call(call)));
-    let expected = answer_seen(model.perform(call)?, engine);
-    agree("answer", 0, 0, engine, expected)?;
+    let engine = Seen::from(perform(run, engine_call(call)));
+    let answer = model.perform(call);
+    let expected = model_seen(answer.map(|answer| answer_seen(answer, engine)))?;
+    Spot::of("answer").agree(engine, expected)?;
     agree_on_run(run, model)?;
     Ok(engine)
 }
 
-// Plays a plan on a fresh run and on the model.
-fn play<J: Journal + Drop, P: Presumption + Drop>(
-    mut run: Run<J, P>,
-    mut model: Model,
-    plan: Plan,
-    dice: &mut Dice,
-    tally: &mut Tally,
-) -> Result<Model, Trouble> {
-    tally.begin();
-    agree_on_run(&run, &model)?;
-    for turn in 0..plan.calls() {
-        let call = plan.call(turn, dice, &model);
-        tally.note_call(&call);
-        let dark = model.dark.size();
-        let answer = make(&mut run, &mut model, &call)?;
-        tally.note_answer(answer, dark, &model);
-    }
-    tally.end(&model);
-    Ok(model)
+/// Who plays: where memory comes from, the dice, and what was compared so far.
+#[derive(Drop)]
+pub struct Player {
+    pub heap: Global,
+    pub dice: Dice,
+    pub tally: Tally,
 }
 
-/// Plays a plan over a journal and the model's picture of it, under a presumption. Gives the model as it was left.
-pub fn play_under<J: Journal + Drop>(
-    heap: Global,
-    journal: J,
-    log: Log,
-    leaning: Leaning,
-    plan: Plan,
-    dice: &mut Dice,
-    tally: &mut Tally,
-) -> Result<Model, Trouble> {
-    match leaning {
-        Leaning::Abort => {
-            let run = Run::new(heap, journal, PresumedAbort)?;
-            play(
-                run,
-                Model::new(heap, presumed_abort(), log),
-                plan,
-                dice,
-                tally,
-            )
+impl Player {
+    /// Nothing played yet.
+    pub fn new(heap: Global, seed: u64) -> Result<Player, AllocError> {
+        Ok(Player {
+            heap,
+            dice: Dice::new(seed),
+            tally: Tally::new(heap)?,
+        })
+    }
+
+    /// Plays a game over a journal and the model's picture of it. Gives the model as it was left.
+    pub fn play<J: Journal + Drop>(
+        &mut self,
+        journal: J,
+        log: Log,
+        game: Game,
+    ) -> Result<Model, Trouble> {
+        let plan = game.plan;
+        match game.leaning {
+            Leaning::Abort => self.play_under(PresumedAbort, presumed_abort(), journal, log, plan),
+            Leaning::Commit => {
+                self.play_under(PresumedCommit, presumed_commit(), journal, log, plan)
+            }
+            Leaning::Wary => self.play_under(Wary, wary_answers(), journal, log, plan),
         }
-        Leaning::Commit => {
-            let run = Run::new(heap, journal, PresumedCommit)?;
-            play(
-                run,
-                Model::new(heap, presumed_commit(), log),
-                plan,
-                dice,
-                tally,
-            )
+    }
+
+    // Plays a plan under a presumption, as each side has it, on a fresh run and on the model.
+    fn play_under<J: Journal + Drop, P: Presumption + Drop>(
+        &mut self,
+        presumption: P,
+        answers: ModelPresumption,
+        journal: J,
+        log: Log,
+        plan: Plan,
+    ) -> Result<Model, Trouble> {
+        let mut run = Run::new(self.heap, journal, presumption)?;
+        let mut model = Model::new(self.heap, answers, log);
+        self.tally.begin();
+        agree_on_run(&run, &model)?;
+        for turn in 0..plan.calls() {
+            let call = plan.call(turn, &mut self.dice, &model);
+            self.tally.note_call(&call);
+            let dark = model.dark.size();
+            let answer = make(&mut run, &mut model, &call)?;
+            self.tally.note_answer(answer, dark, &model);
         }
-        Leaning::Wary => {
-            let run = Run::new(heap, journal, Wary)?;
-            play(
-                run,
-                Model::new(heap, wary_answers(), log),
-                plan,
-                dice,
-                tally,
-            )
-        }
+        self.tally.end(&model);
+        Ok(model)
     }
 }

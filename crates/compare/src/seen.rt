@@ -1,22 +1,23 @@
 //! What either side shows, in words that both share, and what is wrong where they differ.
 use assurance::calls::Value;
-use journal::records::{Kind as EngineKind, Record as EngineRecord};
-use model::sets::Set;
-use model::words::{Answer, Holding, Kind, Message, Outcome, Record, Word};
+use journal::records::Record as EngineRecord;
+use journal::refusals::Refusal as JournalRefusal;
+use model::sets::{STATIONS, Set};
+use model::words::{Answer, Failure, Holding, Message, Outcome, Record, Refusal, Row, Word};
 use presumption::outcome::Outcome as EngineOutcome;
-use run::refusals::Refusal;
+use run::refusals::Refusal as RunRefusal;
 use station::coordinator::CoordinatorEntry;
 use station::messages::{Message as EngineMessage, MessageKind};
 use station::subordinate::SubordinateEntry;
 use std::alloc::{AllocError, AllocFailed};
 
-/// One thing that a side shows. Sets are bytes.
+/// One thing that a side shows. Sets are bytes, and the kind of a record is its letter.
 #[derive(Clone, Copy, PartialEq, Debug)]
 pub enum Seen {
     Nothing,
     Refused(u8),
     Revision(u16),
-    Acts(u8),
+    Acts(usize),
     Done,
     Deliveries(usize),
     Awaited(Option<u8>, usize),
@@ -28,17 +29,23 @@ pub enum Seen {
     Prepared(u8),
     Posted(Message),
     Row(u8, u8, u8, u8),
-    Written(Record),
+    Written(u8, u16, u8),
     Count(usize),
     Byte(u8),
 }
 
-/// A difference: of what, at which station and place, and what each side has there.
+/// What is compared, and at which station and place.
 #[derive(Clone, Copy)]
-pub struct Fault {
+pub struct Spot {
     pub what: &'static str,
     pub station: u8,
     pub place: usize,
+}
+
+/// A difference: where, and what each side has there.
+#[derive(Clone, Copy)]
+pub struct Fault {
+    pub spot: Spot,
     pub engine: Seen,
     pub model: Seen,
 }
@@ -62,77 +69,112 @@ impl<T: Drop> From<AllocFailed<T>> for Trouble {
     }
 }
 
-/// Asks that both sides show the same.
-pub fn agree(
-    what: &'static str,
-    station: u8,
-    place: usize,
-    engine: Seen,
-    model: Seen,
-) -> Result<(), Trouble> {
-    if engine == model {
-        return Ok(());
+impl Spot {
+    /// What there is once.
+    pub fn of(what: &'static str) -> Spot {
+        Spot {
+            what,
+            station: 0,
+            place: 0,
+        }
     }
-    Err(Trouble::Differs(Fault {
-        what,
-        station,
-        place,
-        engine,
-        model,
-    }))
-}
 
-// The model's word for a kind of record.
-fn kind_of(kind: EngineKind) -> Kind {
-    match kind {
-        EngineKind::Opening => Kind::Opening,
-        EngineKind::Commit => Kind::Commit,
-        EngineKind::Abort => Kind::Abort,
-        EngineKind::End => Kind::End,
-        EngineKind::Prepared => Kind::Prepared,
-        EngineKind::Committed => Kind::Committed,
-        EngineKind::Aborted => Kind::Aborted,
+    /// The same at a station.
+    pub fn at(self, station: u8) -> Spot {
+        Spot { station, ..self }
     }
-}
 
-// The engine's word for a kind of record.
-fn engine_kind(kind: Kind) -> EngineKind {
-    match kind {
-        Kind::Opening => EngineKind::Opening,
-        Kind::Commit => EngineKind::Commit,
-        Kind::Abort => EngineKind::Abort,
-        Kind::End => EngineKind::End,
-        Kind::Prepared => EngineKind::Prepared,
-        Kind::Committed => EngineKind::Committed,
-        Kind::Aborted => EngineKind::Aborted,
+    /// The same at a place: of a record, of a message, or the number of a revision.
+    pub fn place(self, place: usize) -> Spot {
+        Spot { place, ..self }
+    }
+
+    /// Asks that both sides show the same.
+    pub fn agree(self, engine: impl Into<Seen>, model: impl Into<Seen>) -> Result<(), Trouble> {
+        let engine = engine.into();
+        let model = model.into();
+        if engine == model {
+            return Ok(());
+        }
+        Err(Trouble::Differs(Fault {
+            spot: self,
+            engine,
+            model,
+        }))
     }
 }
 
-/// A record of the engine, as the model has it.
-pub fn record_of(line: EngineRecord) -> Record {
-    Record {
-        kind: kind_of(line.kind),
-        revision: line.revision,
-        argument: line.argument,
+impl<T: Into<Seen>> From<Option<T>> for Seen {
+    fn from(value: Option<T>) -> Seen {
+        match value {
+            Some(value) => value.into(),
+            None => Seen::Nothing,
+        }
     }
 }
 
-/// A record of the model, as the engine has it.
-pub fn engine_record(what: Record) -> EngineRecord {
-    EngineRecord {
-        kind: engine_kind(what.kind),
-        revision: what.revision,
-        argument: what.argument,
+impl<T: Into<Seen>, E: Into<Seen>> From<Result<T, E>> for Seen {
+    fn from(answer: Result<T, E>) -> Seen {
+        match answer {
+            Ok(value) => value.into(),
+            Err(refusal) => refusal.into(),
+        }
     }
 }
 
-/// A record that the engine may have read.
-pub fn read_seen(line: Option<EngineRecord>) -> Seen {
-    match line {
-        Some(line) => Seen::Written(record_of(line)),
-        None => Seen::Nothing,
+impl From<()> for Seen {
+    fn from(_done: ()) -> Seen {
+        Seen::Done
     }
 }
+
+impl From<usize> for Seen {
+    fn from(count: usize) -> Seen {
+        Seen::Count(count)
+    }
+}
+
+impl From<u8> for Seen {
+    fn from(byte: u8) -> Seen {
+        Seen::Byte(byte)
+    }
+}
+
+impl From<RunRefusal> for Seen {
+    fn from(refusal: RunRefusal) -> Seen {
+        Seen::Refused(refusal.number())
+    }
+}
+
+impl From<JournalRefusal> for Seen {
+    fn from(refusal: JournalRefusal) -> Seen {
+        match refusal {
+            JournalRefusal::NotServed => Seen::Refused(11),
+            JournalRefusal::Full => Seen::Refused(12),
+            JournalRefusal::NotARecord => Seen::Refused(13),
+        }
+    }
+}
+
+impl From<Refusal> for Seen {
+    fn from(refusal: Refusal) -> Seen {
+        Seen::Refused(u8::from(refusal))
+    }
+}
+
+impl From<EngineRecord> for Seen {
+    fn from(line: EngineRecord) -> Seen {
+        Seen::Written(line.kind.letter(), line.revision, line.argument)
+    }
+}
+
+impl From<Record> for Seen {
+    fn from(what: Record) -> Seen {
+        Seen::Written(u8::from(what.kind), what.revision, what.argument)
+    }
+}
+
+// No `From` can be written between types of two other crates, so these two are functions.
 
 // The model's word for an outcome.
 fn outcome_of(outcome: EngineOutcome) -> Outcome {
@@ -155,88 +197,110 @@ fn word_of(kind: MessageKind) -> Word {
     }
 }
 
-/// A message that may wait at the engine.
-pub fn message_seen(message: Option<EngineMessage>) -> Seen {
-    match message {
-        Some(message) => Seen::Posted(Message {
+impl From<EngineMessage> for Seen {
+    fn from(message: EngineMessage) -> Seen {
+        Seen::Posted(Message {
             word: word_of(message.kind),
             revision: message.revision,
             sender: message.sender,
             receiver: message.receiver,
-        }),
-        None => Seen::Nothing,
+        })
     }
 }
 
-/// A coordinator entry of the engine.
-pub fn coordinator_seen(entry: CoordinatorEntry) -> Seen {
-    match entry {
-        CoordinatorEntry::None => Seen::Nothing,
-        CoordinatorEntry::Open { set } => Seen::Opened(set.bits()),
-        CoordinatorEntry::Collecting { set, voters } => Seen::Collecting(set.bits(), voters.bits()),
-        CoordinatorEntry::Announcing { outcome, awaited } => Seen::Announcing(
-            outcome_of(outcome),
-            awaited.bits(),
-        ),
+impl From<Message> for Seen {
+    fn from(message: Message) -> Seen {
+        Seen::Posted(message)
     }
 }
 
-/// A subordinate entry of the engine.
-pub fn subordinate_seen(entry: SubordinateEntry) -> Seen {
-    match entry {
-        SubordinateEntry::None => Seen::Nothing,
-        SubordinateEntry::Active { coordinator } => Seen::Active(coordinator),
-        SubordinateEntry::Prepared { coordinator } => Seen::Prepared(coordinator),
+impl From<CoordinatorEntry> for Seen {
+    fn from(entry: CoordinatorEntry) -> Seen {
+        match entry {
+            CoordinatorEntry::None => Seen::Nothing,
+            CoordinatorEntry::Open { set } => Seen::Opened(set.bits()),
+            CoordinatorEntry::Collecting { set, voters } => Seen::Collecting(
+                set.bits(),
+                voters.bits(),
+            ),
+            CoordinatorEntry::Announcing { outcome, awaited } => Seen::Announcing(
+                outcome_of(outcome),
+                awaited.bits(),
+            ),
+        }
     }
 }
 
-/// An entry of the model that is not none.
-pub fn holding_seen(holding: Holding) -> Seen {
-    match holding {
-        Holding::Opened(set) => Seen::Opened(set.byte()),
-        Holding::Collecting(set, voters) => Seen::Collecting(set.byte(), voters.byte()),
-        Holding::Announcing(outcome, awaited) => Seen::Announcing(outcome, awaited.byte()),
-        Holding::Active(coordinator) => Seen::Active(coordinator),
-        Holding::Prepared(coordinator) => Seen::Prepared(coordinator),
+impl From<SubordinateEntry> for Seen {
+    fn from(entry: SubordinateEntry) -> Seen {
+        match entry {
+            SubordinateEntry::None => Seen::Nothing,
+            SubordinateEntry::Active { coordinator } => Seen::Active(coordinator),
+            SubordinateEntry::Prepared { coordinator } => Seen::Prepared(coordinator),
+        }
     }
 }
 
-/// An answer of the engine.
-pub fn value_seen(answer: Result<Value, Refusal>) -> Seen {
-    match answer {
-        Err(refusal) => Seen::Refused(refusal.number()),
-        Ok(Value::Revision(revision)) => Seen::Revision(revision),
-        Ok(Value::Acts(acts)) => Seen::Acts(acts),
-        Ok(Value::Nothing) => Seen::Done,
-        Ok(Value::Deliveries(count)) => Seen::Deliveries(count),
-        Ok(Value::Awaited(awaited)) => Seen::Awaited(awaited.station, awaited.count as usize),
+impl From<Holding> for Seen {
+    fn from(holding: Holding) -> Seen {
+        match holding {
+            Holding::Opened(set) => Seen::Opened(u8::from(set)),
+            Holding::Collecting(set, voters) => Seen::Collecting(u8::from(set), u8::from(voters)),
+            Holding::Announcing(outcome, awaited) => Seen::Announcing(outcome, u8::from(awaited)),
+            Holding::Active(coordinator) => Seen::Active(coordinator),
+            Holding::Prepared(coordinator) => Seen::Prepared(coordinator),
+        }
+    }
+}
+
+impl From<Row> for Seen {
+    fn from(row: Row) -> Seen {
+        Seen::Row(
+            row.coordinator,
+            u8::from(row.set),
+            u8::from(row.installed),
+            u8::from(row.dropped),
+        )
+    }
+}
+
+impl From<Value> for Seen {
+    fn from(value: Value) -> Seen {
+        match value {
+            Value::Revision(revision) => Seen::Revision(revision),
+            Value::Acts(acts) => Seen::Acts(usize::from(acts)),
+            Value::Nothing => Seen::Done,
+            Value::Deliveries(count) => Seen::Deliveries(count),
+            Value::Awaited(awaited) => Seen::Awaited(awaited.station, awaited.count as usize),
+        }
     }
 }
 
 // The station that an answer of the engine names, if the model has it among those not heard from; else the model's
 // own choice, so that a wrong name shows as a difference.
-fn named(unheard: &Set, engine: Seen) -> Option<u8> {
-    if let Seen::Awaited(Some(station), _) = engine {
-        if unheard.holds(station) {
-            return Some(station);
-        }
+fn named(unheard: Set, engine: Seen) -> Option<u8> {
+    match engine {
+        Seen::Awaited(Some(station), _) if unheard.holds(station) => Some(station),
+        _ => STATIONS.into_iter().find(|station| unheard.holds(*station)),
     }
-    for station in 0..8u8 {
-        if unheard.holds(station) {
-            return Some(station);
-        }
-    }
-    None
 }
 
 /// An answer of the model, beside that of the engine, which is free to name any station not heard from.
 pub fn answer_seen(answer: Answer, engine: Seen) -> Seen {
     match answer {
-        Answer::Refused(number) => Seen::Refused(number),
         Answer::Revision(revision) => Seen::Revision(revision),
         Answer::Acts(acts) => Seen::Acts(acts),
         Answer::Zero => Seen::Done,
         Answer::Deliveries(count) => Seen::Deliveries(count),
-        Answer::Unheard(set) => Seen::Awaited(named(&set, engine), set.size()),
+        Answer::Unheard(set) => Seen::Awaited(named(set, engine), set.size()),
+    }
+}
+
+/// What the model did, or its refusal; that it has no memory is trouble.
+pub fn model_seen<T: Into<Seen>>(done: Result<T, Failure>) -> Result<Seen, Trouble> {
+    match done {
+        Ok(value) => Ok(value.into()),
+        Err(Failure::Refused(refusal)) => Ok(refusal.into()),
+        Err(Failure::Memory) => Err(Trouble::Memory),
     }
 }

@@ -150,6 +150,4 @@ const ABSURD: Style = Style {
 };
 
 /// All styles.
-pub fn styles() -> [Style; 6] {
-    [MIXED, CALM, BUSY, STORMY, FLOOD, ABSURD]
-}
+pub const STYLES: [Style; 6] = [MIXED, CALM, BUSY, STORMY, FLOOD, ABSURD];

@@ -1,9 +1,11 @@
 //! What was compared so far, and what is being compared.
 use crate::seen::Seen;
 use model::whole::Model;
-use model::words::{Call, Verb};
+use model::words::{Call, Outage, Verb};
+use std::alloc::{AllocError, Global};
+use std::collections::BTreeMap;
 
-/// A call with no arguments to speak of, and a fuse that never burns.
+/// A call with no arguments to speak of, and power that lasts.
 pub const PLAIN: Call = Call {
     verb: Verb::Settle,
     revision: 0,
@@ -11,12 +13,15 @@ pub const PLAIN: Call = Call {
     set: 0,
     place: 0,
     copy: false,
-    fuse: 255,
-    kept: 0,
+    outage: Outage::NEVER,
 };
 
-/// Counts of what agreed; and the call at hand, its number in its list, and the last answer.
-#[derive(Clone, Copy)]
+/// The numbers of all refusals.
+const REFUSALS: [u8; 11] = [1, 2, 3, 4, 5, 6, 7, 8, 11, 12, 13];
+
+/// Counts of what agreed, each refusal's by its number; and the call at hand, its number in its list, and the last
+/// answer.
+#[derive(Drop)]
 pub struct Tally {
     pub examples: usize,
     pub lists: usize,
@@ -28,7 +33,7 @@ pub struct Tally {
     pub outages: usize,
     pub deeds: usize,
     pub decodings: usize,
-    refused: [usize; 16],
+    pub refused: BTreeMap<u8, usize>,
     pub number: usize,
     pub call: Call,
     pub answer: Seen,
@@ -36,8 +41,12 @@ pub struct Tally {
 
 impl Tally {
     /// Nothing compared yet.
-    pub fn new() -> Tally {
-        Tally {
+    pub fn new(heap: Global) -> Result<Tally, AllocError> {
+        let mut refused = BTreeMap::new(heap);
+        for number in REFUSALS {
+            refused.insert(number, 0)?;
+        }
+        Ok(Tally {
             examples: 0,
             lists: 0,
             calls: 0,
@@ -48,66 +57,51 @@ impl Tally {
             outages: 0,
             deeds: 0,
             decodings: 0,
-            refused: [0; 16],
+            refused,
             number: 0,
             call: PLAIN,
             answer: Seen::Nothing,
-        }
+        })
     }
 
-    /// Counts a refusal.
-    pub fn count_refusal(&mut self, number: u8) {
-        if number < 16 {
-            self.refused[number as usize] = self.refused[number as usize].wrapping_add(1);
-        }
-    }
-
-    /// How often a refusal came.
-    pub fn refusals_with(&self, number: u8) -> usize {
-        if number < 16 {
-            self.refused[number as usize]
-        } else {
-            0
+    /// Counts an answer's refusal, if it is one.
+    pub fn note_refusal(&mut self, answer: Seen) {
+        if let Seen::Refused(number) = answer
+            && let Some(count) = self.refused.get_mut(&number)
+        {
+            *count = count.saturating_add(1);
         }
     }
 
     /// A list begins.
     pub fn begin(&mut self) {
-        self.lists = self.lists.wrapping_add(1);
+        self.lists = self.lists.saturating_add(1);
         self.number = 0;
     }
 
     /// A call is about to be made.
     pub fn note_call(&mut self, call: &Call) {
-        self.number = self.number.wrapping_add(1);
+        self.number = self.number.saturating_add(1);
         self.call = *call;
     }
 
     /// A call was made, and both sides agreed; before it so many stations were dark.
     pub fn note_answer(&mut self, answer: Seen, dark: usize, model: &Model) {
-        self.calls = self.calls.wrapping_add(1);
+        self.calls = self.calls.saturating_add(1);
         self.answer = answer;
-        if self.fullest < model.post.len() {
-            self.fullest = model.post.len();
-        }
+        self.fullest = self.fullest.max(model.post.len());
         if dark < model.dark.size() {
-            self.outages = self.outages.wrapping_add(1);
+            self.outages = self.outages.saturating_add(1);
         }
-        if let Seen::Refused(number) = answer {
-            self.count_refusal(number);
-        }
+        self.note_refusal(answer);
     }
 
     /// A list is over.
     pub fn end(&mut self, model: &Model) {
-        self.opened = self.opened.wrapping_add(model.rows.len());
-        for row in model.rows.iter() {
-            if row.installed.size() > 0 {
-                self.installed = self.installed.wrapping_add(1);
-            }
-            if row.dropped.size() > 0 {
-                self.dropped = self.dropped.wrapping_add(1);
-            }
-        }
+        let installed = model.rows.iter().filter(|row| row.installed.size() > 0);
+        let dropped = model.rows.iter().filter(|row| row.dropped.size() > 0);
+        self.opened = self.opened.saturating_add(model.rows.len());
+        self.installed = self.installed.saturating_add(installed.count());
+        self.dropped = self.dropped.saturating_add(dropped.count());
     }
 }

@@ -1,7 +1,5 @@
 //! Both sides, compared in everything that a run shows.
-use crate::seen::{
-    Seen, Trouble, agree, coordinator_seen, holding_seen, message_seen, read_seen, subordinate_seen,
-};
+use crate::seen::{Seen, Spot, Trouble};
 use journal::calls::Journal;
 use model::sections::Log;
 use model::whole::Model;
@@ -9,81 +7,48 @@ use model::words::Side;
 use presumption::Presumption;
 use run::run::Run;
 
-/// Entries of one kind at one station: for 32 revisions and one past them.
-const REVISIONS: usize = 33;
-
-/// All entries: of both kinds at 8 stations.
-const ENTRIES: usize = 2 * 8 * REVISIONS;
-
-// Where an entry stands among all entries.
-fn spot(station: u8, side: Side, revision: u16) -> usize {
-    let row = match side {
-        Side::Coordinates => usize::from(station),
-        Side::Stages => usize::from(station).wrapping_add(8),
-    };
-    row.wrapping_mul(REVISIONS)
-        .wrapping_add(usize::from(revision))
+// How many entries of a station the engine has that are not none, for the revisions opened and one past them.
+fn entries_of<J: Journal, P: Presumption>(run: &Run<J, P>, station: u8, opened: u16) -> usize {
+    let stations = run.stations();
+    let coordinating = (0..=opened).filter(|revision| Seen::from(stations.coordinator(
+        station, *revision,
+    )) != Seen::Nothing);
+    let staging = (0..=opened).filter(|revision| Seen::from(stations.subordinate(
+        station, *revision,
+    )) != Seen::Nothing);
+    coordinating.count().saturating_add(staging.count())
 }
 
-// All entries of the model.
-fn entries_of(model: &Model) -> [Seen; ENTRIES] {
-    let mut entries = [Seen::Nothing; ENTRIES];
-    for part in model.parts.iter() {
-        let at = spot(part.station, part.side, part.revision);
-        if at < ENTRIES {
-            entries[at] = holding_seen(part.holding);
-        }
-    }
-    entries
-}
-
-// The entry at a spot.
-fn entry_at(entries: &[Seen], at: usize) -> Seen {
-    match entries.get(at) {
-        Some(entry) => *entry,
-        None => Seen::Nothing,
-    }
-}
-
-// Power and both entries of each station, for each revision that was opened and one past them.
+// Power and entries of each station: every entry of the model is the engine's too, and it has no others.
 fn agree_on_stations<J: Journal, P: Presumption>(
     run: &Run<J, P>,
     model: &Model,
 ) -> Result<(), Trouble> {
-    let served = model.log.served;
-    let count = Seen::Count(usize::from(run.stations().len()));
-    agree("stations", 0, 0, count, Seen::Count(usize::from(served)))?;
-    let entries = entries_of(model);
-    let past = (model.rows.len() % 64) as u16;
+    let served = model.log.served();
+    let stations = run.stations();
+    Spot::of("stations").agree(usize::from(stations.len()), usize::from(served))?;
+    for part in model.parts.iter() {
+        let entry = part.entry;
+        let spot = Spot::of("entry")
+            .at(entry.station)
+            .place(usize::from(entry.revision));
+        let engine = match entry.side {
+            Side::Coordinates => Seen::from(stations.coordinator(entry.station, entry.revision)),
+            Side::Stages => Seen::from(stations.subordinate(entry.station, entry.revision)),
+        };
+        spot.agree(engine, part.holding)?;
+    }
+    let opened = u16::try_from(model.rows.len()).unwrap_or(u16::MAX);
     for station in 0..served {
-        let power = Seen::Power(run.stations().power(station));
-        agree(
-            "power",
-            station,
-            0,
-            power,
-            Seen::Power(!model.dark.holds(station)),
-        )?;
-        for revision in 0..past.saturating_add(1) {
-            let engine = coordinator_seen(run.stations().coordinator(station, revision));
-            let expected = entry_at(&entries, spot(station, Side::Coordinates, revision));
-            agree(
-                "coordinator entry",
-                station,
-                usize::from(revision),
-                engine,
-                expected,
-            )?;
-            let engine = subordinate_seen(run.stations().subordinate(station, revision));
-            let expected = entry_at(&entries, spot(station, Side::Stages, revision));
-            agree(
-                "subordinate entry",
-                station,
-                usize::from(revision),
-                engine,
-                expected,
-            )?;
-        }
+        let lit = !model.dark.holds(station);
+        let power = Spot::of("power").at(station);
+        power.agree(Seen::Power(stations.power(station)), Seen::Power(lit))?;
+        let parts = model
+            .parts
+            .iter()
+            .filter(|part| part.entry.station == station);
+        let entries = Spot::of("entries").at(station);
+        entries.agree(entries_of(run, station, opened), parts.count())?;
     }
     Ok(())
 }
@@ -94,42 +59,24 @@ fn agree_on_post<J: Journal, P: Presumption>(
     model: &Model,
 ) -> Result<(), Trouble> {
     let waiting = model.post.len();
-    agree(
-        "messages waiting",
-        0,
-        0,
-        Seen::Count(run.waiting()),
-        Seen::Count(waiting),
-    )?;
+    Spot::of("messages waiting").agree(run.waiting(), waiting)?;
+    let spot = Spot::of("message");
     for (place, message) in model.post.iter().enumerate() {
-        agree(
-            "message",
-            0,
-            place,
-            message_seen(run.message(place)),
-            Seen::Posted(*message),
-        )?;
+        spot.place(place).agree(run.message(place), *message)?;
     }
-    agree(
-        "message",
-        0,
-        waiting,
-        message_seen(run.message(waiting)),
-        Seen::Nothing,
-    )
+    spot.place(waiting)
+        .agree(run.message(waiting), Seen::Nothing)
 }
 
-// A row of the engine's as-run log.
+// A row of the engine's as-run log. Its type belongs to the actor, a crate that this one does not see.
 fn row_seen<J: Journal, P: Presumption>(run: &Run<J, P>, revision: u16) -> Seen {
-    match run.as_run(revision) {
-        Some(row) => Seen::Row(
-            row.coordinator,
-            row.set.bits(),
-            row.installed.bits(),
-            row.dropped.bits(),
-        ),
-        None => Seen::Nothing,
-    }
+    let row = run.as_run(revision).map(|row| Seen::Row(
+        row.coordinator,
+        row.set.bits(),
+        row.installed.bits(),
+        row.dropped.bits(),
+    ));
+    Seen::from(row)
 }
 
 // The as-run log, row by row, and nothing behind it.
@@ -137,93 +84,44 @@ fn agree_on_rows<J: Journal, P: Presumption>(
     run: &Run<J, P>,
     model: &Model,
 ) -> Result<(), Trouble> {
-    let mut revision: u16 = 0;
-    for row in model.rows.iter() {
-        let expected = Seen::Row(
-            row.coordinator,
-            row.set.byte(),
-            row.installed.byte(),
-            row.dropped.byte(),
-        );
-        agree(
-            "as-run row",
-            0,
-            usize::from(revision),
-            row_seen(run, revision),
-            expected,
-        )?;
-        revision = revision.saturating_add(1);
+    let spot = Spot::of("as-run row");
+    let rows = model.rows.iter().copied().map(Seen::from);
+    for (revision, row) in (0..u16::MAX).zip(rows.chain([Seen::Nothing])) {
+        spot.place(usize::from(revision))
+            .agree(row_seen(run, revision), row)?;
     }
-    agree(
-        "as-run row",
-        0,
-        usize::from(revision),
-        row_seen(run, revision),
-        Seen::Nothing,
-    )
+    Ok(())
 }
 
-// The sizes of one section, served or not.
-fn agree_on_sizes<J: Journal>(journal: &J, log: &Log, station: u8) -> Result<(), Trouble> {
+// One section, served or not: its sizes, its stable records, and nothing behind them.
+fn agree_on_section<J: Journal>(journal: &J, log: &Log, station: u8) -> Result<(), Trouble> {
     let stable = log.count(station, true);
     let unforced = log.count(station, false);
-    agree(
-        "capacity",
-        station,
-        0,
-        Seen::Count(journal.capacity(station)),
-        Seen::Count(log.capacity(station)),
-    )?;
-    agree(
-        "stable records",
-        station,
-        0,
-        Seen::Count(journal.stable_len(station)),
-        Seen::Count(stable),
-    )?;
-    agree(
-        "unforced records",
-        station,
-        0,
-        Seen::Count(journal.unforced_len(station)),
-        Seen::Count(unforced),
-    )?;
-    agree(
-        "stable record",
-        station,
-        stable,
-        read_seen(journal.read(station, stable)),
-        Seen::Nothing,
-    )
+    let capacity = Spot::of("capacity").at(station);
+    capacity.agree(journal.capacity(station), log.capacity(station))?;
+    let stable_records = Spot::of("stable records").at(station);
+    stable_records.agree(journal.stable_len(station), stable)?;
+    let unforced_records = Spot::of("unforced records").at(station);
+    unforced_records.agree(journal.unforced_len(station), unforced)?;
+    let spot = Spot::of("stable record").at(station);
+    let lines = log
+        .lines
+        .iter()
+        .filter(|line| line.station == station && line.stable);
+    for (place, line) in lines.enumerate() {
+        spot.place(place)
+            .agree(journal.read(station, place), line.what)?;
+    }
+    spot.place(stable)
+        .agree(journal.read(station, stable), Seen::Nothing)
 }
 
-/// A journal: its stations, the sizes of each section, and each stable record.
+/// A journal: its stations, and the section of each, of some past the last and of one far past it.
 pub fn agree_on_journal<J: Journal>(journal: &J, log: &Log) -> Result<(), Trouble> {
-    let served = Seen::Count(usize::from(journal.stations()));
-    agree(
-        "stations served",
-        0,
-        0,
-        served,
-        Seen::Count(usize::from(log.served)),
-    )?;
-    for station in [0u8, 1, 2, 3, 4, 5, 6, 7, 8, 200] {
-        agree_on_sizes(journal, log, station)?;
-    }
-    let mut read: [usize; 8] = [0; 8];
-    for line in log.lines.iter() {
-        let station = line.station;
-        if line.stable && station < 8 {
-            let place = read[station as usize];
-            read[station as usize] = place.wrapping_add(1);
-            agree(
-                "stable record",
-                station,
-                place,
-                read_seen(journal.read(station, place)),
-                Seen::Written(line.what),
-            )?;
-        }
+    let served = Spot::of("stations served");
+    served.agree(usize::from(journal.stations()), usize::from(log.served()))?;
+    for station in [0, 1, 2, 3, 4, 5, 6, 7, 8, 200] {
+        agree_on_section(journal, log, station)?;
     }
     Ok(())
 }
