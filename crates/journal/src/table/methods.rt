@@ -106,6 +106,7 @@ impl Journal for Table {
 
     ghost lenders = { λ _. [] };
 
+    // They are few enough for a byte.
     fn stations(&self) -> u8 {
         self.stations.len() as u8
     }
