@@ -127,6 +127,7 @@ impl Journal for Table {
         self.at(station)?.read(place)
     }
 
+    // Each changing call finds the records itself: a method that lends them would need a clause on the loan.
     fn write(&mut self, station: u8, line: Record) -> Result<(), Refusal> {
         let records = self
             .stations
