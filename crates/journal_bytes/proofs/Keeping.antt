@@ -90,11 +90,11 @@ module _ (bs : List ℕ) (n s : ℕ) (h : served_in bs n ≡ n) where
       (λ l. ⊎_elim
       (λ room.
       let fits = within_bytes bs n s l in
-      ap (λ cs. served_in cs n) (cond-true _ _ _ (lt-ltb s n l) ∙ cond-true _ _ _ (lt-ltb counts (room_of bs n) room))
-      ∙ served_changed bs _ n s l (added_only bs (start_of bs n s) (size_of bs n) fits x room) (accepted_added bs (start_of bs n s) (size_of bs n) fits x room) h)
-      (λ full. ap (λ cs. served_in cs n) (cond-true _ _ _ (lt-ltb s n l) ∙ cond-false _ _ _ (le-ltb counts (room_of bs n) full)) ∙ h)
+      rw (lt-ltb s n l, lt-ltb counts (room_of bs n) room)
+      (served_changed bs (record_added bs (start_of bs n s) (stable_of bs n s) (unforced_of bs n s) x) n s l (added_only bs (start_of bs n s) (size_of bs n) fits x room) (accepted_added bs (start_of bs n s) (size_of bs n) fits x room) h))
+      (λ full. rw (lt-ltb s n l, le-ltb counts (room_of bs n) full) h)
       (cases_lt counts (room_of bs n)))
-      (λ past. ap (λ cs. served_in cs n) (cond-false _ _ _ (le-ltb s n past)) ∙ h)
+      (λ past. rw (le-ltb s n past) h)
       (cases_lt s n)
 
   pub kept_served : (m : ℕ) → m ≤ counts → served_in (bytes_kept m bs n s) n ≡ n
@@ -104,16 +104,17 @@ module _ (bs : List ℕ) (n s : ℕ) (h : served_in bs n ≡ n) where
       (λ room.
       let fits = within_bytes bs n s l in
       let wide : counts_bytes ≤ size_of bs n = omega arith in
-      ap (λ cs. served_in cs n) (cond-true _ _ _ (lt-ltb s n l) ∙ cond-true _ _ _ (lt-ltb 0 (room_of bs n) room))
-      ∙ served_changed bs _ n s l (kept_only bs (start_of bs n s) (size_of bs n) fits m (omega arith) wide) (accepted_kept bs (start_of bs n s) (size_of bs n) fits m few wide) h)
-      (λ none. ap (λ cs. served_in cs n) (cond-true _ _ _ (lt-ltb s n l) ∙ cond-false _ _ _ (le-ltb 0 (room_of bs n) none)) ∙ h)
+      let less : m ≤ room_of bs n = omega arith in
+      rw (lt-ltb s n l, lt-ltb 0 (room_of bs n) room)
+      (served_changed bs (first_kept bs (start_of bs n s) m) n s l (kept_only bs (start_of bs n s) (size_of bs n) fits m less wide) (accepted_kept bs (start_of bs n s) (size_of bs n) fits m few wide) h))
+      (λ none. rw (lt-ltb s n l, le-ltb 0 (room_of bs n) none) h)
       (cases_lt 0 (room_of bs n)))
-      (λ past. ap (λ cs. served_in cs n) (cond-false _ _ _ (le-ltb s n past)) ∙ h)
+      (λ past. rw (le-ltb s n past) h)
       (cases_lt s n)
 
 some_is : (o : Option Record) → is_some o ≡ true → Some (unwrap_or o fallback) ≡ o
 some_is (Some x) h = refl
-some_is None h = let z : ◌≡◌ {A = ℕ} 0 1 = cc in absurd (omega arith)
+some_is None h = absurd (cc)
 
 -- An accepted section holds exactly what it counts.
 exact_in : (bs : List ℕ) (start size : ℕ) → AcceptedAt bs start size → Exact bs start (section_in bs start size)

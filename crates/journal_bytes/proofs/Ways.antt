@@ -2,7 +2,7 @@
 use Rattle.std.proofs.Common.{refl, Ok, Err, Result, cond, nat_lt, min, ◌≡◌, ℕ, ◌+◌, ◌*◌, ◌<◌, ◌≤◌, List, Some, unwrap_or, sym, ap, ◌∙◌, subst, arith}
 use Rattle.journal_bytes.proofs.Changing.{written_means, forced_means, cut_means}
 use Rattle.journal_bytes.proofs.Keeping.{written_served, kept_served, section_accepted, sound_from}
-use Rattle.journal_bytes.proofs.Sections.{within_bytes, size_small, length_sections, section_there, capacity_there, stable_there, unforced_there}
+use Rattle.journal_bytes.proofs.Sections.{within_bytes, length_sections, section_there, capacity_there, stable_there, unforced_there}
 use Rattle.journal_bytes.specs.Changes.{record_added, first_kept, bytes_written, bytes_kept, bytes_forced, bytes_cut}
 use Rattle.journal_bytes.specs.Found.{CountsOf, FoundAt, Found}
 use Rattle.journal_bytes.specs.Journals.{journal_bytes, Rewritten}
@@ -30,7 +30,6 @@ module _ (bs : List ℕ) (n s : ℕ) where
         served = l;
         listed = omega (arith, length_sections bs n);
         within = within_bytes bs n s l;
-        small = size_small bs n;
         counts = k;
         capacity_there = k.capacity_is ∙ sym (capacity_there bs n s l);
         stable_there = k.stable_is ∙ sym (stable_there bs n s l);

@@ -1,6 +1,6 @@
 -- What the code finds of a section before it reads or changes it.
 use Rattle.std.specs.Prelude.{◌≡◌, ℕ, ◌+◌, ◌<◌, ◌≤◌, List, length, Ok, Err, Result}
-use Rattle.journal_bytes.specs.Layout.{most_bytes, capacity_of, stable_count, unforced_count, size_of, start_of, sections}
+use Rattle.journal_bytes.specs.Layout.{capacity_of, stable_count, unforced_count, size_of, start_of, sections}
 use Rattle.journal_bytes.specs.declared.layout.Counts.{Counts}
 use Rattle.journal.specs.Meaning.{section, no_section}
 use Rattle.journal.specs.declared.refusals.Refusal.{Refusal}
@@ -19,7 +19,6 @@ pub record FoundAt (bs : List ℕ) (n s : ℕ) (c : Counts) : Type 0 where
   pub served : s < n
   pub listed : s < length (sections bs n)
   pub within : start_of bs n s + size_of bs n ≤ length bs
-  pub small : size_of bs n ≤ most_bytes
   pub counts : CountsOf bs (start_of bs n s) (size_of bs n) c
   pub capacity_there : c.capacity ≡ (section (sections bs n) s).capacity
   pub stable_there : c.stable ≡ length (section (sections bs n) s).stable

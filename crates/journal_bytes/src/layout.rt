@@ -81,7 +81,7 @@ pub(crate) fn count_at(bytes: &[u8], at: usize) -> usize
     usize::from(u16::from_be_bytes([bytes[at], bytes[at + 1]]))
 }
 
-// Puts a number into two bytes, the high one first.
+// Puts a number, which two bytes hold, into them, the high one first.
 pub(crate) fn put_count(bytes: &mut [u8], at: usize, count: usize)
     requires within { at + 2 ≤ length bytes.old }
     requires few { count < most_bytes }

@@ -106,6 +106,7 @@ impl Journal for Table {
 
     ghost lenders = { λ _. [] };
 
+    // They are few enough for a byte.
     fn stations(&self) -> u8 {
         self.stations.len() as u8
     }
@@ -126,6 +127,7 @@ impl Journal for Table {
         self.at(station)?.read(place)
     }
 
+    // Each changing call finds the records itself: a method that lends them would need a clause on the loan.
     fn write(&mut self, station: u8, line: Record) -> Result<(), Refusal> {
         let records = self
             .stations
