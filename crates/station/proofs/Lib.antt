@@ -1,3 +1,4 @@
 pub mod Finds
 pub mod Members
+pub mod Bits
 pub mod Lowest
