@@ -21,9 +21,13 @@ announcing π o w = cond (π.acknowledges o) (Announcing o w) None
 abbrev pub decide_commit : Answers → StationSet → Move CoordinatorEntry
 decide_commit π set = move (DecideCommit set) (announcing π outcome.Commit set)
 
--- Decide abort for a set, of which some are told: they are awaited where aborts are acknowledged.
+-- An abort is decided and some are told: they are awaited where aborts are acknowledged.
+abbrev pub aborting : Answers → StationSet → CoordinatorEntry
+aborting π told = cond (empty told) None (announcing π outcome.Abort told)
+
+-- Decide abort for a set, of which some are told.
 abbrev pub decide_abort : Answers → StationSet → StationSet → Move CoordinatorEntry
-decide_abort π set told = move (DecideAbort set told) (cond (empty told) None (announcing π outcome.Abort told))
+decide_abort π set told = move (DecideAbort set told) (aborting π told)
 
 -- So many have voted YES: when they are the whole set, decide commit.
 abbrev pub counted : Answers → StationSet → StationSet → Move CoordinatorEntry

@@ -1,8 +1,7 @@
 //! The coordinator's entry for one revision, and its machine.
-ghost use Rattle.std.specs.Prelude.{◌≡◌, if◌then◌else◌};
-ghost use Rattle.station.specs.Coordinator.{coordinator_move, close_move, give_up_move, chase_move, announcing, outcome_of, unheard};
+ghost use Rattle.std.specs.Prelude.{◌≡◌};
+ghost use Rattle.station.specs.Coordinator.{coordinator_move, close_move, give_up_move, chase_move, announcing, aborting, outcome_of, unheard};
 ghost use Rattle.station.specs.Moves.{Makes, MakesAllowed, allowed_step};
-ghost use Rattle.station.specs.Sets.{empty};
 
 use crate::messages::MessageKind;
 use crate::sets::StationSet;
@@ -59,7 +58,7 @@ pub(crate) fn announcing_to<P: Presumption>(
 
 // The entry after an abort is decided and some are told.
 fn aborting<P: Presumption>(presumption: &P, told: StationSet) -> CoordinatorEntry
-    ensures { result ≡ (if empty told then CoordinatorEntry.None else announcing (P.answers presumption.now) Outcome.Abort told) }
+    ensures { result ≡ aborting (P.answers presumption.now) told }
 {
     if told.is_empty() {
         CoordinatorEntry::None

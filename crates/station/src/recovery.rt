@@ -11,6 +11,8 @@ use journal::records::{Kind, Record};
 use presumption::Presumption;
 use presumption::outcome::Outcome;
 
+// Journal, station and revision stay side by side: the model of a struct cannot read what its generic journal means.
+
 // The stable record at a place, if it is of that kind and for that revision.
 fn read_of<J: Journal>(
     journal: &J,

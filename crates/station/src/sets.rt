@@ -65,6 +65,7 @@ impl StationSet {
         if self.is_empty() {
             None
         } else {
+            // At most 8, so the narrowing loses nothing: no From makes a byte of a u32.
             Some(self.bits.trailing_zeros() as u8)
         }
     }
