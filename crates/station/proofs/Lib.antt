@@ -1,3 +1,3 @@
 pub mod Finds
-pub mod Members
+pub mod Bits
 pub mod Lowest

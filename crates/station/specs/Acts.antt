@@ -14,7 +14,8 @@ use Rattle.station.specs.declared.messages.MessageKind.TheVariants as message
 use Rattle.station.specs.declared.sets.StationSet.{StationSet}
 use Rattle.station.specs.declared.steps.Step.{Step}
 use Rattle.station.specs.declared.steps.Step.TheVariants as step
-use Rattle.station.specs.Sets.{empty, members}
+use Rattle.station.specs.Coordinator.{outcome_of}
+use Rattle.station.specs.Sets.{bits_of, empty, members}
 
 -- What a station can do: write a record, force its journal, post a message, mark a revision installed or dropped.
 pub data Act : Type 0 where
@@ -63,7 +64,7 @@ logged Forced x = write x ∷ force ∷ []
 
 -- Open the vote: write I and force, if the presumption opens; post PREPARE to the set.
 abbrev pub open_vote : Answers → ℕ → ℕ → StationSet → List Act
-open_vote π s r set = if_so π.opens (write (line kind.Opening r set.bits) ∷ force ∷ []) ++ post_each message.Prepare r s set
+open_vote π s r set = if_so π.opens (write (line kind.Opening r (bits_of set)) ∷ force ∷ []) ++ post_each message.Prepare r s set
 
 -- Prepare: write p, force, post YES to the sender of PREPARE.
 abbrev pub prepare : ℕ → ℕ → ℕ → ℕ → List Act
@@ -71,12 +72,12 @@ prepare s r c t = write (line kind.Prepared r c) ∷ force ∷ post (letter mess
 
 -- Decide commit: write C, force, post COMMIT to the set.
 abbrev pub commit : ℕ → ℕ → StationSet → List Act
-commit s r set = write (line kind.Commit r set.bits) ∷ force ∷ post_each message.Commit r s set
+commit s r set = write (line kind.Commit r (bits_of set)) ∷ force ∷ post_each message.Commit r s set
 
 -- Decide abort: log A with the whole set; post ABORT to those told; if aborts are acknowledged and nobody is told, write E.
 abbrev pub abort : Answers → ℕ → ℕ → StationSet → StationSet → List Act
 abort π s r set told =
-    logged π.abort_logging (line kind.Abort r set.bits)
+    logged π.abort_logging (line kind.Abort r (bits_of set))
     ++ (post_each message.Abort r s told ++ if_so (π.acknowledges Abort && empty told) (write (line kind.End r 0) ∷ []))
 
 -- ACK to station t, if the outcome is acknowledged.
@@ -103,7 +104,7 @@ acts π s r (step.DecideAbort set told) = abort π s r set told
 acts π s r (step.Enforce o c) = enforce π s r o c
 acts π s r (step.Acknowledge o t) = acknowledge π s r o t
 acts π s r step.End = write (line kind.End r 0) ∷ []
-acts π s r (step.Tell k t) = post (letter (telling k.outcome) r s t) ∷ []
-acts π s r (step.Chase k w) = post_each (telling k.outcome) r s w
+acts π s r (step.Tell k t) = post (letter (telling (outcome_of k)) r s t) ∷ []
+acts π s r (step.Chase k w) = post_each (telling (outcome_of k)) r s w
 acts π s r (step.Inquire c) = post (letter message.Inquiry r s c) ∷ []
 acts π s r (step.Reject c) = reject π r c

@@ -1,5 +1,5 @@
 -- A move: the step that an entry calls for, and the entry after it.
-use Rattle.std.specs.Prelude.{Some, None, Option}
+use Rattle.std.specs.Prelude.{◌≡◌, Some, None, Option}
 use Rattle.station.specs.declared.steps.Step.{Step}
 use Rattle.station.specs.declared.steps.Step.TheVariants.{Rest}
 
@@ -25,3 +25,13 @@ allowed_step (Some m) = Some m.step
 abbrev pub allowed_next : {E : Type 0} → E → Option (Move E) → E
 allowed_next e None = e
 allowed_next e (Some m) = m.next
+
+-- A move is made: its step is answered, and its entry comes next.
+pub record Makes {E : Type 0} (m : Move E) (answer : Step) (after : E) : Type 0 where
+  pub step : answer ≡ m.step
+  pub next : after ≡ m.next
+
+-- A move is made where the entry allows it; else no step is answered, and the entry stays.
+pub record MakesAllowed {E : Type 0} (m : Option (Move E)) (before : E) (answer : Option Step) (after : E) : Type 0 where
+  pub step : answer ≡ allowed_step m
+  pub next : after ≡ allowed_next before m

@@ -1,5 +1,7 @@
 -- Recovery: the entries that the stable records of a station rebuild.
-use Rattle.std.specs.Prelude.{ℕ, Bool, cond, ◌&&◌, ◌||◌, List, [], ◌∷◌, is_some, Some, None, Option, ◌==◌}
+use Rattle.std.specs.Prelude.{ℕ, Bool, cond, ◌&&◌, ◌||◌, List, is_some, Some, None, Option, ◌==◌}
+use Rattle.std.specs.List.{find}
+use Rattle.journal.specs.Meaning.{Section, section}
 use Rattle.journal.specs.Records.{letter_of}
 use Rattle.journal.specs.declared.records.Kind.{Kind}
 use Rattle.journal.specs.declared.records.Kind.TheVariants as kind
@@ -15,14 +17,22 @@ use Rattle.station.specs.declared.subordinate.SubordinateEntry.TheVariants as su
 use Rattle.station.specs.Coordinator.{announcing}
 use Rattle.station.specs.Sets.{of_bits}
 
+-- The stable records of a station.
+abbrev pub stable_records : List Section → ℕ → List Record
+stable_records m s = (section m s).stable
+
 -- The record is of that kind and for that revision.
 abbrev pub is_of : Kind → ℕ → Record → Bool
 is_of k r x = letter_of x.kind == letter_of k && x.revision == r
 
+-- A record that may be there, if it is of that kind and for that revision.
+abbrev pub kept : Kind → ℕ → Option Record → Option Record
+kept k r None = None
+kept k r (Some x) = cond (is_of k r x) (Some x) None
+
 -- The first record of a kind for a revision, if there is one.
 unfoldable pub first_record : Kind → ℕ → List Record → Option Record
-first_record k r [] = None
-first_record k r (x ∷ xs) = cond (is_of k r x) (Some x) (first_record k r xs)
+first_record k r xs = find (is_of k r) xs
 
 -- There is a record of that kind for that revision.
 abbrev pub has_record : Kind → ℕ → List Record → Bool

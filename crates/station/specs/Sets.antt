@@ -1,5 +1,5 @@
 -- Sets of stations.
-use Rattle.std.specs.Prelude.{◌≡◌, ℕ, ◌/◌, ◌%◌, ◌^◌, Bool, true, cond, List, [], ◌∷◌, Some, None, Option, ◌==◌, bit_and, bit_or, bit_xor, nat_lt}
+use Rattle.std.specs.Prelude.{◌≡◌, ℕ, ◌/◌, ◌%◌, ◌^◌, Bool, true, cond, List, [], ◌∷◌, Some, None, Option, ◌==◌, bit_and, bit_or, bit_xor, count_ones, nat_lt}
 use Rattle.std.specs.Int.Count.{count_trailing_zeros}
 use Rattle.std.specs.List.{range_with_len, filter}
 use Rattle.journal.specs.Limits.{most_stations}
@@ -8,6 +8,14 @@ use Rattle.station.specs.declared.sets.StationSet.{StationSet}
 -- The set with these bits: bit s, worth 2 to the power s, stands for station s.
 abbrev pub of_bits : ℕ → StationSet
 of_bits n = record { bits = n }
+
+-- The bits of a set.
+abbrev pub bits_of : StationSet → ℕ
+bits_of x = x.bits
+
+-- How many stations are in the set.
+abbrev pub size : StationSet → ℕ
+size x = count_ones x.bits
 
 -- Nobody is in the set.
 abbrev pub empty : StationSet → Bool

@@ -34,21 +34,16 @@ on_abort (Prepared c) s = move (Enforce outcome.Abort c) None
 -- What a message of a kind from a station leads to.
 abbrev pub subordinate_move : SubordinateEntry → MessageKind → ℕ → Move SubordinateEntry
 subordinate_move e message.Prepare s = on_prepare e s
-subordinate_move e message.Yes s = stay e
-subordinate_move e message.No s = stay e
 subordinate_move e message.Commit s = on_commit e s
 subordinate_move e message.Abort s = on_abort e s
-subordinate_move e message.Ack s = stay e
-subordinate_move e message.Inquiry s = stay e
+subordinate_move e k s = stay e
 
 -- Reject, from Active.
 abbrev pub reject_move : SubordinateEntry → Option (Move SubordinateEntry)
-reject_move None = Refused
 reject_move (Active c) = Some (move (Reject c) None)
-reject_move (Prepared c) = Refused
+reject_move e = Refused
 
 -- Inquire, from Prepared.
 abbrev pub inquire_move : SubordinateEntry → Option (Move SubordinateEntry)
-inquire_move None = Refused
-inquire_move (Active c) = Refused
 inquire_move (Prepared c) = Some (move (Inquire c) (Prepared c))
+inquire_move e = Refused

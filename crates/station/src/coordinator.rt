@@ -1,8 +1,7 @@
 //! The coordinator's entry for one revision, and its machine.
-ghost use Rattle.std.specs.Prelude.{◌≡◌, if◌then◌else◌};
-ghost use Rattle.station.specs.Coordinator.{coordinator_move, close_move, give_up_move, chase_move, announcing, unheard};
-ghost use Rattle.station.specs.Moves.{allowed_step, allowed_next};
-ghost use Rattle.station.specs.Sets.{empty};
+ghost use Rattle.std.specs.Prelude.{◌≡◌};
+ghost use Rattle.station.specs.Coordinator.{coordinator_move, close_move, give_up_move, chase_move, announcing, aborting, outcome_of, unheard};
+ghost use Rattle.station.specs.Moves.{Makes, MakesAllowed, allowed_step};
 
 use crate::messages::MessageKind;
 use crate::sets::StationSet;
@@ -36,7 +35,7 @@ pub struct KnownOutcome {
 impl KnownOutcome {
     /// Which outcome it is.
     pub fn outcome(self) -> Outcome
-        ensures { result ≡ self.outcome }
+        ensures { result ≡ outcome_of self }
     {
         self.outcome
     }
@@ -48,7 +47,7 @@ pub(crate) fn announcing_to<P: Presumption>(
     outcome: Outcome,
     awaited: StationSet,
 ) -> CoordinatorEntry
-    ensures { result ≡ announcing (P.Presumption.answers presumption.now) outcome awaited }
+    ensures { result ≡ announcing (P.answers presumption.now) outcome awaited }
 {
     if presumption.acknowledges(outcome) {
         CoordinatorEntry::Announcing { outcome, awaited }
@@ -59,7 +58,7 @@ pub(crate) fn announcing_to<P: Presumption>(
 
 // The entry after an abort is decided and some are told.
 fn aborting<P: Presumption>(presumption: &P, told: StationSet) -> CoordinatorEntry
-    ensures { result ≡ (if empty told then CoordinatorEntry.None else announcing (P.Presumption.answers presumption.now) Outcome.Abort told) }
+    ensures { result ≡ aborting (P.answers presumption.now) told }
 {
     if told.is_empty() {
         CoordinatorEntry::None
@@ -71,8 +70,7 @@ fn aborting<P: Presumption>(presumption: &P, told: StationSet) -> CoordinatorEnt
 impl CoordinatorEntry {
     /// A message came: changes the entry and answers the step that is due.
     pub fn hear<P: Presumption>(&mut self, presumption: &P, kind: MessageKind, sender: u8) -> Step
-        ensures step { result ≡ (coordinator_move (P.Presumption.answers presumption.now) self.old kind sender).step }
-        ensures next { self.new ≡ (coordinator_move (P.Presumption.answers presumption.now) self.old kind sender).next }
+        ensures { Makes (coordinator_move (P.answers presumption.now) self.old kind sender) result self.new }
     {
         match (&mut *self, kind) {
             (CoordinatorEntry::Collecting { set, voters }, MessageKind::Yes)
@@ -116,8 +114,7 @@ impl CoordinatorEntry {
 
     /// The vote is to be opened: none, where the entry does not allow it.
     pub fn close(&mut self) -> Option<Step>
-        ensures step { result ≡ allowed_step (close_move self.old) }
-        ensures next { self.new ≡ allowed_next self.old (close_move self.old) }
+        ensures { MakesAllowed (close_move self.old) self.old result self.new }
     {
         match *self {
             CoordinatorEntry::Open { set } => {
@@ -131,8 +128,7 @@ impl CoordinatorEntry {
 
     /// The revision is to be given up: none, where the entry does not allow it.
     pub fn give_up<P: Presumption>(&mut self, presumption: &P) -> Option<Step>
-        ensures step { result ≡ allowed_step (give_up_move (P.Presumption.answers presumption.now) self.old) }
-        ensures next { self.new ≡ allowed_next self.old (give_up_move (P.Presumption.answers presumption.now) self.old) }
+        ensures { MakesAllowed (give_up_move (P.answers presumption.now) self.old) self.old result self.new }
     {
         match *self {
             CoordinatorEntry::Open { set } | CoordinatorEntry::Collecting { set, .. } => {

@@ -2,7 +2,7 @@
 ghost use Rattle.std.specs.Prelude.{◌≡◌, ◌/◌, ◌^◌, true, false, Some, count_ones};
 ghost use Rattle.std.specs.Int.Count.{count_trailing_zeros};
 ghost use Rattle.journal.specs.Limits.{most_stations};
-ghost use Rattle.station.specs.Sets.{of_bits, empty, holds, single, with_station, without_station, without_set, first_of, below, NamesOne, LeadsMembers};
+ghost use Rattle.station.specs.Sets.{of_bits, bits_of, size, empty, holds, single, with_station, without_station, without_set, first_of, below, NamesOne, LeadsMembers};
 
 use journal::MAX_STATIONS;
 
@@ -20,11 +20,7 @@ pub struct StationSet {
 fn bit_of(station: u8) -> u8
     ensures { result ≡ single station }
 {
-    if station < MAX_STATIONS {
-        1 << station
-    } else {
-        0
-    }
+    1_u8.checked_shl(u32::from(station)).unwrap_or(0)
 }
 
 /// The set whose bits these are.
@@ -38,7 +34,7 @@ impl From<u8> for StationSet {
 
 /// The bits of the set, as a record's argument has them.
 impl From<StationSet> for u8 {
-    ghost from_gives = { λ x n. n ≡ x.bits };
+    ghost from_gives = { λ x n. n ≡ bits_of x };
 
     fn from(set: StationSet) -> u8 {
         set.bits
@@ -55,7 +51,7 @@ impl StationSet {
 
     /// How many stations are in the set?
     pub fn len(self) -> u32
-        ensures { result ≡ count_ones self.bits }
+        ensures { result ≡ size self }
     {
         self.bits.count_ones()
     }
@@ -69,28 +65,8 @@ impl StationSet {
         if self.is_empty() {
             None
         } else {
-            Some(self.lowest())
-        }
-    }
-
-    // The lowest number in the set, where somebody is in it.
-    fn lowest(self) -> u8
-        requires { empty self ≡ false }
-        ensures number { result ≡ count_trailing_zeros most_stations self.bits }
-        ensures one { holds self result ≡ true }
-        ensures leads { LeadsMembers (Some result) self }
-    {
-        self.bits.trailing_zeros() as u8
-    }
-
-    // The bits from one station on.
-    fn bits_from(self, station: usize) -> u8
-        ensures { result ≡ self.bits / 2 ^ station }
-    {
-        if station < MAX_STATIONS as usize {
-            self.bits >> station
-        } else {
-            0
+            // At most 8, so the narrowing loses nothing: no From makes a byte of a u32.
+            Some(self.bits.trailing_zeros() as u8)
         }
     }
 
@@ -98,14 +74,14 @@ impl StationSet {
     pub fn contains(self, station: u8) -> bool
         ensures { result ≡ holds self station }
     {
-        self.bits_from(station as usize) % 2 == 1
+        self.bits & bit_of(station) != 0
     }
 
     /// Are all stations of the set numbered below `stations`?
     pub fn is_below(self, stations: usize) -> bool
         ensures { result ≡ below self stations }
     {
-        self.bits_from(stations) == 0
+        stations >= usize::from(MAX_STATIONS) || self.bits >> stations == 0
     }
 
     /// The set with the station in it.
@@ -121,12 +97,8 @@ impl StationSet {
     pub fn remove(self, station: u8) -> StationSet
         ensures { result ≡ without_station self station }
     {
-        if self.contains(station) {
-            StationSet {
-                bits: self.bits ^ bit_of(station),
-            }
-        } else {
-            self
+        StationSet {
+            bits: self.bits & !bit_of(station),
         }
     }
 
@@ -135,7 +107,7 @@ impl StationSet {
         ensures { result ≡ without_set self other }
     {
         StationSet {
-            bits: self.bits ^ (self.bits & other.bits),
+            bits: self.bits & !other.bits,
         }
     }
 }

@@ -1,6 +1,6 @@
 //! The subordinate's entry for one revision, and its machine.
 ghost use Rattle.std.specs.Prelude.{◌≡◌};
-ghost use Rattle.station.specs.Moves.{allowed_step, allowed_next};
+ghost use Rattle.station.specs.Moves.{Makes, MakesAllowed, allowed_step};
 ghost use Rattle.station.specs.Subordinate.{subordinate_move, reject_move, inquire_move};
 
 use crate::messages::MessageKind;
@@ -24,8 +24,7 @@ pub struct GivenVote {
 impl SubordinateEntry {
     /// A message came: changes the entry and answers the step that is due.
     pub fn hear(&mut self, kind: MessageKind, sender: u8) -> Step
-        ensures step { result ≡ (subordinate_move self.old kind sender).step }
-        ensures next { self.new ≡ (subordinate_move self.old kind sender).next }
+        ensures { Makes (subordinate_move self.old kind sender) result self.new }
     {
         match (*self, kind) {
             (SubordinateEntry::Active { coordinator }, MessageKind::Prepare) => {
@@ -72,8 +71,7 @@ impl SubordinateEntry {
 
     /// The revision is to be dropped before the vote: none, where the entry does not allow it.
     pub fn reject(&mut self) -> Option<Step>
-        ensures step { result ≡ allowed_step (reject_move self.old) }
-        ensures next { self.new ≡ allowed_next self.old (reject_move self.old) }
+        ensures { MakesAllowed (reject_move self.old) self.old result self.new }
     {
         match *self {
             SubordinateEntry::Active { coordinator } => {
