@@ -22,6 +22,7 @@ use station::steps::Step;
 use std::alloc::{AllocError, Global};
 
 /// A run's journal, post and log.
+// No `Model`: `journal()` names the journal itself, and the view would be these same three fields.
 #[derive(Drop)]
 pub struct Actor<J> {
     pub(crate) journal: J,
