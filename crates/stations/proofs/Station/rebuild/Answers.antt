@@ -8,4 +8,4 @@ pub returns : goal.returns
 unfolding rebuilt
 returns g c =
     let entries = resumed (g.P.Presumption.answers c.args.presumption.now) (section (g.J.Journal.meaning c.args.journal.now) c.args.station).stable in
-    ap (λ v. record { power = true; entries = v }) (from_fn_same entries c.from_fn.ensures.items (λ i y q k. search rules))
+    ap (λ v. record { power = true; entries = v }) (from_fn_same entries c.from_fn.ensures.items (λ i y q k. (search rules, search rules)))

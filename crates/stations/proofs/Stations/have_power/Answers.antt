@@ -8,4 +8,4 @@ use Rattle.stations.proofs.Stations.have_power.Goals as goal
 
 pub returns : goal.returns
 unfolding all_power
-returns c = all_from_yields_List (power_at c.args.self.now) _ _ _ c.all.ensures.ran (YieldsList-from_rest (members c.args.set) c.into_iter.ensures.into_iter_gives.0) (λ x b q k. search (rules, tests))
+returns c = all_from_yields_List (power_at c.args.self.now) _ _ _ c.all.ensures.ran (YieldsList-from_rest (members c.args.set) c.into_iter.ensures.into_iter_gives.0) (λ x b q k. (search rules, search (rules, tests)))
