@@ -1,5 +1,5 @@
 -- Settling, delivery by delivery and revision by revision.
-use Rattle.std.proofs.Common.{◌≡◌, ℕ, zero, suc, ◌+◌, ◌-◌, ◌*◌, ◌<◌, ◌≤◌, Bool, true, false, cond, ltb, ◌⊎◌, List, [], ◌∷◌, length, sym, refl, ap, ◌∙◌, subst, inl, inr, arith}
+use Rattle.std.proofs.Common.{◌≡◌, ℕ, zero, suc, ◌+◌, ◌-◌, ◌*◌, ◌<◌, ◌≤◌, Bool, true, false, cond, ltb, ◌⊎◌, List, [], ◌∷◌, length, sym, refl, ap, ◌∙◌, inl, inr, arith}
 use Rattle.presumption.specs.Answers.{Answers}
 use Rattle.run.proofs.Loads.{Light, weight_some, weight_most, load_falls, fit_first, light_urged, light_inquiring}
 use Rattle.run.specs.Calls.{coordinator_entry, deliver_call}
@@ -9,12 +9,9 @@ use Rattle.run.specs.State.{State}
 use Rattle.station.specs.declared.messages.Message.{Message}
 use Rattle.stations.specs.Stations.{subordinate_at}
 use Rattle.std.specs.List.{range_with_len}
-use Rattle.std.proofs.lemmas.Bool.{cases_lt, cond-true}
+use Rattle.std.proofs.lemmas.List.{nil_from_length}
+use Rattle.std.proofs.lemmas.Bool.{cases_lt}
 use Rattle.std.proofs.lemmas.Bool.Decides.{nat_tests}
-
-pub nothing : {X : Type 0} (l : List X) → length l ≤ 0 → l ≡ []
-nothing [] h = refl
-nothing (x ∷ l) h = absurd (omega arith)
 
 no_load : (p : List Message) → load 8 p ≤ 0 → p ≡ []
 no_load [] h = refl
@@ -59,11 +56,7 @@ adds_each part h [] = adds_state (λ st. st)
 adds_each part h (k ∷ ks) = adds_then (part k) (each part ks) (h k) (adds_each part h ks)
 
 adds_cond : (b : State → Bool) (f g : Progress → Progress) → Adds f → Adds g → Adds (λ x. cond (b x.state) (f x) (g x))
-adds_cond b f g h i = record { adds = λ st n. go st n (b st) }
-  where
-    go : (st : State) (n : ℕ) (c : Bool) → cond c (f (progress st n)) (g (progress st n)) ≡ progress (cond c (f (progress st 0)) (g (progress st 0))).state (n + (cond c (f (progress st 0)) (g (progress st 0))).deliveries)
-    go st n true = h.adds st n
-    go st n false = i.adds st n
+adds_cond b f g h i = record { adds = λ st n. grind (arith, h.adds, i.adds) }
 
 module _ (π : Answers) where
   adds_first : Adds (first_delivered π)
@@ -131,7 +124,7 @@ module _ (π : Answers) where
   -- one delivery of those that are left
   delivered_one : (k : ℕ) (x : Progress) → 0 < length x.state.store.post → delivered π (suc k) x ≡ delivered π k (first_delivered π x)
   unfolding delivered
-  delivered_one k x h = cond-true (ltb 0 (length x.state.store.post)) _ _ (grind (arith, nat_tests))
+  delivered_one k x h = grind (arith, nat_tests)
 
   -- as many deliveries as the load allows are enough, and more change nothing
   enough : (k l : ℕ) (x : Progress) → x.state.fit ≡ true → load 8 x.state.store.post ≤ k → load 8 x.state.store.post ≤ l → delivered π k x ≡ delivered π l x
@@ -143,7 +136,7 @@ module _ (π : Answers) where
             delivered_one k x p
             ∙ (enough k l (first_delivered π x) (fit_first π x.state 255 0 e p) (omega (arith, load_falls π x.state 255 0 e p)) (omega (arith, load_falls π x.state 255 0 e p))
             ∙ sym (delivered_one l x p))
-        | inr p ↦ let z = nothing x.state.store.post p in delivered_none (suc k) x z ∙ sym (delivered_none (suc l) x z)
+        | inr p ↦ let z = nil_from_length x.state.store.post (omega arith) in delivered_none (suc k) x z ∙ sym (delivered_none (suc l) x z)
       ]
 
   -- a delivery, and then the others
@@ -157,7 +150,7 @@ module _ (π : Answers) where
 
   drained_none : (x : Progress) → length x.state.store.post ≤ 0 → drained π x ≡ x
   unfolding drained
-  drained_none x h = delivered_none (load 8 x.state.store.post) x (nothing x.state.store.post h)
+  drained_none x h = delivered_none (load 8 x.state.store.post) x (nil_from_length x.state.store.post (omega arith))
 
 -- how far emptying the post has come, with so many deliveries made; the presumption stays
 pub record Draining {P : Type 0} (answers : P → Answers) (x y : Shown P) (n : ℕ) : Type 0 where
@@ -172,13 +165,13 @@ module _ {P : Type 0} {answers : P → Answers} {x y : Shown P} {n : ℕ} (h : D
   pub draining_one : 0 < length y.state.store.post → length y.state.store.post ≤ 64 → (z : Shown P) → z.state ≡ (deliver_call (answers y.presumption) 0 false 255 0 y.state).state → z.presumption ≡ y.presumption → Draining answers x z (n + 1)
   draining_one p most z e s =
       let π = answers x.presumption in
-      let d : z.state ≡ (deliver_call π 0 false 255 0 y.state).state = e ∙ ap (λ (q : P). (deliver_call (answers q) 0 false 255 0 y.state).state) h.presumes in
+      let d : z.state ≡ (deliver_call π 0 false 255 0 y.state).state = cc (e, h.presumes) in
       let falls : load 8 z.state.store.post < load 8 y.state.store.post = omega (arith, ap (λ (v : State). load 8 v.store.post) d, load_falls π y.state 255 0 h.fit p) in
       record {
-        fit = ap (λ (v : State). v.fit) d ∙ fit_first π y.state 255 0 h.fit p;
-        left = ap (λ (v : State). drained π (progress v (n + 1))) d ∙ (drained_one π (progress y.state n) h.fit p ∙ h.left);
+        fit = cc (d, fit_first π y.state 255 0 h.fit p);
+        left = cc (d, drained_one π (progress y.state n) h.fit p, h.left);
         few = omega (arith, falls, h.few);
-        bounded = inr (elim h.bounded [ inl i ↦ omega (arith, falls, load_few y.state.store.post, most) | inr i ↦ omega (arith, falls) ]);
+        bounded = inr (grind (arith, falls, load_few y.state.store.post, most, h.bounded));
         presumes = s ∙ h.presumes;
       }
 
@@ -190,13 +183,13 @@ module _ {P : Type 0} {answers : P → Answers} {x y : Shown P} {n : ℕ} (h : D
   draining_done e =
       record {
         progress = sym (drained_none (answers x.presumption) (progress y.state n) e) ∙ h.left;
-        ready = record { fit = h.fit; empty = nothing y.state.store.post e };
+        ready = record { fit = h.fit; empty = nil_from_length y.state.store.post (omega arith) };
         presumes = h.presumes;
       }
 
 -- a drained run, and a little posted since
 few_then : (n : ℕ) (st v w : State) → Drained st → Light n st v → w ≡ v → (w.fit ≡ true) × (load 8 w.store.post ≤ n)
-few_then n st v w d l e = subst (λ (u : State). (u.fit ≡ true) × (load 8 u.store.post ≤ n)) (sym e) (l.fit ∙ d.fit, omega (arith, l.weighs, ap (load 8) d.empty))
+few_then n st v w d l e = rw e (l.fit ∙ d.fit, omega (arith, l.weighs, ap (load 8) d.empty))
 
 -- to urge a coordinator posts little
 pub urged_light : (π : Answers) (r : ℕ) (st v : State) → Drained st → v ≡ urged π (coordinator_entry r st) r st → (v.fit ≡ true) × (load 8 v.store.post ≤ 16)
@@ -209,12 +202,7 @@ inquired_light π r s st v d e = few_then 3 st _ v d (light_inquiring π st (sub
 -- a change, and then the post is emptied
 pub settles_then : {P : Type 0} (answers : P → Answers) (change : Answers → State → State) {x v y : Shown P} {n : ℕ} → v.state ≡ change (answers x.presumption) x.state → v.presumption ≡ x.presumption → Settles (drained (answers v.presumption)) v n y
     → Settles (λ z. drained (answers x.presumption) (progress (change (answers x.presumption) z.state) z.deliveries)) x n y
-settles_then {P = P} answers change {x = x} {v = v} e p h =
-    record {
-      progress = h.progress ∙ (ap (λ (q : P). drained (answers q) (progress v.state 0)) p ∙ ap (λ (u : State). drained (answers x.presumption) (progress u 0)) e);
-      ready = h.ready;
-      presumes = h.presumes ∙ p;
-    }
+settles_then answers change e p h = record { progress = cc (h.progress, e, p); ready = h.ready; presumes = h.presumes ∙ p }
 
 -- how far a part of settling has come for the numbers up to n, with those from k on left
 pub record Going {P : Type 0} (answers : P → Answers) (part : Answers → ℕ → Progress → Progress) (most n k : ℕ) (x y : Shown P) (i m : ℕ) : Type 0 where
@@ -229,10 +217,10 @@ module _ {P : Type 0} {answers : P → Answers} {part : Answers → ℕ → Prog
   going_more lt z j adds s few =
       let f = part (answers x.presumption) in
       let same : n - k ≡ suc (n - (k + 1)) = omega arith in
-      let one : progress z.state j ≡ f k (progress y.state 0) = s.progress ∙ ap (λ (q : P). part (answers q) k (progress y.state 0)) h.presumes in
+      let one : progress z.state j ≡ f k (progress y.state 0) = cc (s.progress, h.presumes) in
       record {
         ready = s.ready;
-        left = ap (each f (range_with_len (k + 1) (n - (k + 1)))) (counted (f k) adds y.state z.state m j one) ∙ (sym (ap (λ (l : ℕ). each f (range_with_len k l) (progress y.state m)) same) ∙ h.left);
+        left = cc (counted (f k) adds y.state z.state m j one, rw same at h.left);
         few = grind (arith, h.few, few);
         presumes = s.presumes ∙ h.presumes;
       }
@@ -243,10 +231,7 @@ module _ {P : Type 0} {answers : P → Answers} {part : Answers → ℕ → Prog
       let none : n - k ≡ 0 = omega arith in
       record {
         progress =
-            sym (ap (λ (l : ℕ). each (part (answers x.presumption)) (range_with_len k l) (progress y.state m)) none)
-            ∙ (h.left
-            ∙ (ap (λ (q : P). each (part (answers q)) (range_with_len 0 n) (progress x.state i)) s.presumes
-            ∙ ap (each (part (answers o.presumption)) (range_with_len 0 n)) s.progress));
+            cc (rw none at h.left, s.presumes, s.progress);
         ready = h.ready;
         presumes = h.presumes ∙ s.presumes;
       }

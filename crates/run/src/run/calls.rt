@@ -90,6 +90,8 @@ impl<J: Journal, P: Presumption> Run<J, P> {
         self.check_power(station)
     }
 
+    // Written out: one function for these five would take a closure whose contract is longer than their bodies.
+
     /// Opens the vote on a revision: PREPARE goes to its set. Answers the acts done.
     pub fn close(&mut self, revision: u16, fuse: Fuse) -> Result<u8, Refusal>
         ensures { LeadsTo (close_call (P.answers self.old.presumption) revision fuse.acts fuse.kept)
@@ -199,8 +201,7 @@ impl<J: Journal, P: Presumption> Run<J, P> {
 
     /// Loses a waiting message.
     pub fn lose(&mut self, place: usize) -> Result<(), Refusal>
-        ensures { LeadsTo (lose_call place)
-            self.old (plain_answer result) self.new }
+        ensures { LeadsTo (lose_call place) self.old (plain_answer result) self.new }
     {
         let _ = self.message_at(place)?;
         self.actor.remove(place);
@@ -209,8 +210,7 @@ impl<J: Journal, P: Presumption> Run<J, P> {
 
     /// The power fails at a station; of its unforced records so many are kept.
     pub fn cut(&mut self, station: u8, kept: u8) -> Result<(), Refusal>
-        ensures { LeadsTo (cut_call station kept)
-            self.old (plain_answer result) self.new }
+        ensures { LeadsTo (cut_call station kept) self.old (plain_answer result) self.new }
     {
         self.check_fit()?;
         self.check_station(station)?;
@@ -245,8 +245,7 @@ impl<J: Journal, P: Presumption> Run<J, P> {
 
     /// Opens a revision: the coordinator's entry becomes Open, each of the set Active. Answers its number.
     pub fn open(&mut self, coordinator: u8, set: StationSet) -> Result<u16, Refusal>
-        ensures { LeadsTo (open_call coordinator set)
-            self.old (answer_of result) self.new }
+        ensures { LeadsTo (open_call coordinator set) self.old (answer_of result) self.new }
     {
         self.check_fit()?;
         if !self.stations.names(coordinator, set) {

@@ -1,5 +1,5 @@
 //! Settling: the post is emptied, and each revision is brought to its end. No power fails within it.
-ghost use Rattle.std.specs.Prelude.{◌≡◌, ◌+◌, ◌^◌, ◌<◌, ◌≤◌, true, [], IfOk, OnOk};
+ghost use Rattle.std.specs.Prelude.{◌≡◌, ◌≤◌, true, [], IfOk, OnOk};
 ghost use Rattle.journal.specs.Limits.{most_stations};
 ghost use Rattle.run.specs.Answers.{answer_of, awaited_answer};
 ghost use Rattle.run.specs.Calls.{Asks, reply, opened_questions, coordinator_entry, unheard_call};
@@ -100,6 +100,7 @@ impl<J: Journal, P: Presumption> Run<J, P> {
         let stations = self.stations.len();
         self.urge(revision);
         let mut deliveries = self.drain();
+        // The calls take a station by its number, and change the run meanwhile.
         for station in 0..stations {
             self.resolve(revision, station);
             deliveries += self.drain();
@@ -109,10 +110,11 @@ impl<J: Journal, P: Presumption> Run<J, P> {
 
     // Empties the post and finishes each revision, ascending. Answers the deliveries made.
     fn finish_all(&mut self) -> usize
-        requires fit { self.old.state.fit ≡ true }
+        requires { self.old.state.fit ≡ true }
         ensures { Settles (λ x. settled (P.answers self.old.presumption) x.state)
             self.old result self.new }
     {
+        // `as` is proved to lose nothing here, where `try_from` would bring in a failure.
         let revisions = self.actor.opened() as u16;
         let mut deliveries = self.drain();
         for revision in 0..revisions {
