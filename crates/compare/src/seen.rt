@@ -10,9 +10,10 @@ use station::coordinator::CoordinatorEntry;
 use station::messages::{Message as EngineMessage, MessageKind};
 use station::subordinate::SubordinateEntry;
 use std::alloc::{AllocError, AllocFailed};
+use std::fmt;
 
 /// One thing that a side shows. Sets are bytes, and the kind of a record is its letter.
-#[derive(Clone, Copy, PartialEq, Debug)]
+#[derive(Clone, Copy, PartialEq, Eq, Debug)]
 pub enum Seen {
     Nothing,
     Refused(u8),
@@ -48,6 +49,18 @@ pub struct Fault {
     pub spot: Spot,
     pub engine: Seen,
     pub model: Seen,
+}
+
+impl fmt::Display for Fault {
+    fn fmt<W: fmt::Write>(&self, f: &mut fmt::Formatter<W>) -> fmt::Result {
+        let Spot {
+            what,
+            station,
+            place,
+        } = self.spot;
+        write!(f, "{what}, station {station}, place {place}: ")?;
+        write!(f, "engine {:?}, model {:?}", self.engine, self.model)
+    }
 }
 
 /// Why the program stops before its end.
@@ -125,6 +138,12 @@ impl<T: Into<Seen>, E: Into<Seen>> From<Result<T, E>> for Seen {
 impl From<()> for Seen {
     fn from(_done: ()) -> Seen {
         Seen::Done
+    }
+}
+
+impl From<bool> for Seen {
+    fn from(power: bool) -> Seen {
+        Seen::Power(power)
     }
 }
 

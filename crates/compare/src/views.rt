@@ -40,9 +40,8 @@ fn agree_on_stations<J: Journal, P: Presumption>(
     }
     let opened = u16::try_from(model.rows.len()).unwrap_or(u16::MAX);
     for station in 0..served {
-        let lit = !model.dark.holds(station);
         let power = Spot::of("power").at(station);
-        power.agree(Seen::Power(stations.power(station)), Seen::Power(lit))?;
+        power.agree(stations.power(station), !model.dark.holds(station))?;
         let parts = model
             .parts
             .iter()
