@@ -231,13 +231,14 @@ impl<'a> Drawing<'a> {
         if self.style.flood && turn < FLOOD_OVER {
             return self.flooding(turn);
         }
-        if self.style.period == 0 {
+        let Some(past) = turn.checked_rem(self.style.period) else {
             return self.any();
+        };
+        let left = self.style.period.saturating_sub(past);
+        if left <= RECOVERY {
+            self.recovering(left == 1)
+        } else {
+            self.any()
         }
-        let phase = (turn % self.style.period).saturating_add(1);
-        if phase.saturating_add(RECOVERY) > self.style.period {
-            return self.recovering(phase == self.style.period);
-        }
-        self.any()
     }
 }

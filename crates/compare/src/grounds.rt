@@ -9,9 +9,10 @@ use model::layout::found;
 use model::sections::Log;
 use std::alloc::{AllocError, Global};
 
-/// A list of drawn calls has so many, and up to so many more.
+/// A list of drawn calls has so many at least.
 const CALLS: usize = 160;
 
+/// And fewer than so many more.
 const MORE_CALLS: usize = 80;
 
 /// A list over one of the special grounds has so many.
@@ -37,12 +38,12 @@ enum Ground {
     Join(u8, Lent),
 }
 
-/// So many bytes for so many stations, all zero but where they are `used`.
+/// So many bytes for so many stations, all zero but for those at the front.
 #[derive(Clone, Copy, PartialEq, Eq, Debug)]
 struct Lent {
     length: usize,
     stations: u8,
-    used: bool,
+    front: &'static [u8],
 }
 
 impl Lent {
@@ -51,7 +52,7 @@ impl Lent {
         Lent {
             length,
             stations,
-            used: false,
+            front: &[],
         }
     }
 
@@ -60,17 +61,15 @@ impl Lent {
         Lent {
             length,
             stations,
-            used: true,
+            front: &USED,
         }
     }
 
     // The bytes.
     fn bytes(&self, heap: Global) -> Result<Vec<u8>, AllocError> {
         let mut bytes = vec![in heap; 0u8; self.length]?;
-        if self.used {
-            for (byte, used) in bytes.iter_mut().zip(USED) {
-                *byte = used;
-            }
+        for (byte, given) in bytes.iter_mut().zip(self.front) {
+            *byte = *given;
         }
         Ok(bytes)
     }

@@ -26,34 +26,34 @@ const KINDS: [(EngineKind, Kind); 7] = [
 ];
 
 /// A record, as each side has it.
-#[derive(Clone, Copy)]
-struct Line {
+#[derive(Clone, Copy, PartialEq, Eq, Debug)]
+struct Pair {
     engine: EngineRecord,
     model: Record,
 }
 
 /// What is done to a section.
-#[derive(Clone, Copy)]
-enum Act {
-    Write(Line),
+#[derive(Clone, Copy, PartialEq, Eq, Debug)]
+enum Change {
+    Write(Pair),
     Force,
     Cut(usize),
 }
 
 /// A call that changes a station's section.
-#[derive(Clone, Copy)]
+#[derive(Clone, Copy, PartialEq, Eq, Debug)]
 struct Deed {
     station: u8,
-    act: Act,
+    change: Change,
 }
 
-impl Line {
+impl Pair {
     // Any record.
-    fn draw(dice: &mut Dice) -> Line {
+    fn draw(dice: &mut Dice) -> Pair {
         let (engine_kind, kind) = dice.pick(&KINDS, (EngineKind::End, Kind::End));
         let revision = (dice.below(65536) % 65536) as u16;
         let argument = dice.byte();
-        Line {
+        Pair {
             engine: EngineRecord {
                 kind: engine_kind,
                 revision,
@@ -81,29 +81,29 @@ impl Deed {
     // Any deed.
     fn draw(dice: &mut Dice, served: u8) -> Deed {
         let station = draw_station(dice, served);
-        let act = match dice.below(10) {
-            0 | 1 => Act::Force,
-            2 => Act::Cut(dice.pick(&[0, 1, 2, 3, 255, usize::MAX], 0)),
-            _ => Act::Write(Line::draw(dice)),
+        let change = match dice.below(10) {
+            0 | 1 => Change::Force,
+            2 => Change::Cut(dice.pick(&[0, 1, 2, 3, 255, usize::MAX], 0)),
+            _ => Change::Write(Pair::draw(dice)),
         };
-        Deed { station, act }
+        Deed { station, change }
     }
 
     // Does the deed at the engine.
     fn do_at_engine<J: Journal>(&self, journal: &mut J) -> Seen {
-        Seen::from(match self.act {
-            Act::Write(line) => journal.write(self.station, line.engine),
-            Act::Force => journal.force(self.station),
-            Act::Cut(kept) => journal.cut(self.station, kept),
+        Seen::from(match self.change {
+            Change::Write(record) => journal.write(self.station, record.engine),
+            Change::Force => journal.force(self.station),
+            Change::Cut(kept) => journal.cut(self.station, kept),
         })
     }
 
     // Does the deed at the model.
     fn do_at_model(&self, log: &mut Log) -> Result<Seen, Trouble> {
-        match self.act {
-            Act::Write(line) => model_seen(log.write(self.station, line.model)),
-            Act::Force => Ok(Seen::from(log.force(self.station))),
-            Act::Cut(kept) => Ok(Seen::from(log.cut(self.station, kept))),
+        match self.change {
+            Change::Write(record) => model_seen(log.write(self.station, record.model)),
+            Change::Force => Ok(Seen::from(log.force(self.station))),
+            Change::Cut(kept) => Ok(Seen::from(log.cut(self.station, kept))),
         }
     }
 }
@@ -174,9 +174,7 @@ impl Player {
             deed.do_at_model(&mut log)?;
         }
         if self.dice.chance(70) && log.served() > 0 {
-            for byte in bytes.iter_mut() {
-                *byte = self.dice.byte();
-            }
+            bytes.fill_with(|| self.dice.byte());
         }
         imprint(&log, 0, bytes.as_mut_slice(), stations);
         if self.dice.chance(40) {
@@ -302,8 +300,8 @@ impl Player {
     fn play_decodings(&mut self) -> Result<(), Trouble> {
         for _string in 0..3000 {
             self.play_decoding()?;
-            let line = Line::draw(&mut self.dice);
-            agree_on_every_byte(&line.engine.encode(), &encode(&line.model))?;
+            let record = Pair::draw(&mut self.dice);
+            agree_on_every_byte(&record.engine.encode(), &encode(&record.model))?;
             self.tally.decodings = self.tally.decodings.saturating_add(1);
         }
         Ok(())

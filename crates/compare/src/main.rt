@@ -15,7 +15,7 @@ mod views;
 mod wary;
 
 use player::Player;
-use seen::{Fault, Spot, Trouble};
+use seen::Trouble;
 use std::io;
 use tally::Tally;
 
@@ -34,20 +34,11 @@ fn tell_trouble(rt: &HostRuntime, tally: &Tally, trouble: Trouble) -> io::Result
     let Trouble::Differs(fault) = trouble else {
         return rt.println("no memory");
     };
-    let Fault {
-        spot: Spot {
-            what,
-            station,
-            place,
-        },
-        engine,
-        model,
-    } = fault;
     println!(rt;
         "DIFFERENCE in list {}, call {}: {:?}",
         tally.lists, tally.number, tally.call
     )?;
-    println!(rt; "{what}, station {station}, place {place}: engine {engine:?}, model {model:?}")
+    println!(rt; "{fault}")
 }
 
 // What was compared.

@@ -16,6 +16,7 @@ use model::words::{
 use presumption::Presumption;
 use presumption::abort::PresumedAbort;
 use presumption::commit::PresumedCommit;
+use run::Fuse;
 use run::run::Run;
 use station::sets::StationSet;
 use std::alloc::{AllocError, Global};
@@ -69,47 +70,29 @@ fn engine_call(call: &Call) -> EngineCall {
         set,
         place,
         copy,
-        outage: Outage { after: fuse, kept },
+        outage: Outage { after, kept },
     } = *call;
-    let set = StationSet::from_bits(set);
+    let set = StationSet::from(set);
+    let fuse = Fuse { acts: after, kept };
     match verb {
         Verb::Open => EngineCall::Open {
             coordinator: station,
             set,
         },
-        Verb::Close => EngineCall::Close {
-            revision,
-            fuse,
-            kept,
-        },
-        Verb::GiveUp => EngineCall::GiveUp {
-            revision,
-            fuse,
-            kept,
-        },
+        Verb::Close => EngineCall::Close { revision, fuse },
+        Verb::GiveUp => EngineCall::GiveUp { revision, fuse },
         Verb::Reject => EngineCall::Reject {
             revision,
             station,
             fuse,
-            kept,
         },
-        Verb::Chase => EngineCall::Chase {
-            revision,
-            fuse,
-            kept,
-        },
+        Verb::Chase => EngineCall::Chase { revision, fuse },
         Verb::Inquire => EngineCall::Inquire {
             revision,
             station,
             fuse,
-            kept,
         },
-        Verb::Deliver => EngineCall::Deliver {
-            place,
-            copy,
-            fuse,
-            kept,
-        },
+        Verb::Deliver => EngineCall::Deliver { place, copy, fuse },
         Verb::Lose => EngineCall::Lose { place },
         Verb::Cut => EngineCall::Cut { station, kept },
         Verb::Restart => EngineCall::Restart { station },

@@ -1,18 +1,17 @@
 //! What either side shows, in words that both share, and what is wrong where they differ.
 use assurance::calls::Value;
 use journal::records::Record as EngineRecord;
-use journal::refusals::Refusal as JournalRefusal;
 use model::sets::{STATIONS, Set};
-use model::words::{Answer, Failure, Holding, Message, Outcome, Record, Refusal, Row, Word};
+use model::words::{Answer, Failure, Holding, Message, Outcome, Record, Row, Word};
 use presumption::outcome::Outcome as EngineOutcome;
-use run::refusals::Refusal as RunRefusal;
 use station::coordinator::CoordinatorEntry;
 use station::messages::{Message as EngineMessage, MessageKind};
 use station::subordinate::SubordinateEntry;
 use std::alloc::{AllocError, AllocFailed};
+use std::fmt;
 
 /// One thing that a side shows. Sets are bytes, and the kind of a record is its letter.
-#[derive(Clone, Copy, PartialEq, Debug)]
+#[derive(Clone, Copy, PartialEq, Eq, Debug)]
 pub enum Seen {
     Nothing,
     Refused(u8),
@@ -48,6 +47,18 @@ pub struct Fault {
     pub spot: Spot,
     pub engine: Seen,
     pub model: Seen,
+}
+
+impl fmt::Display for Fault {
+    fn fmt<W: fmt::Write>(&self, f: &mut fmt::Formatter<W>) -> fmt::Result {
+        let Spot {
+            what,
+            station,
+            place,
+        } = self.spot;
+        write!(f, "{what}, station {station}, place {place}: ")?;
+        write!(f, "engine {:?}, model {:?}", self.engine, self.model)
+    }
 }
 
 /// Why the program stops before its end.
@@ -113,11 +124,11 @@ impl<T: Into<Seen>> From<Option<T>> for Seen {
     }
 }
 
-impl<T: Into<Seen>, E: Into<Seen>> From<Result<T, E>> for Seen {
+impl<T: Into<Seen>, E: Into<u8>> From<Result<T, E>> for Seen {
     fn from(answer: Result<T, E>) -> Seen {
         match answer {
             Ok(value) => value.into(),
-            Err(refusal) => refusal.into(),
+            Err(refusal) => Seen::Refused(refusal.into()),
         }
     }
 }
@@ -125,6 +136,12 @@ impl<T: Into<Seen>, E: Into<Seen>> From<Result<T, E>> for Seen {
 impl From<()> for Seen {
     fn from(_done: ()) -> Seen {
         Seen::Done
+    }
+}
+
+impl From<bool> for Seen {
+    fn from(power: bool) -> Seen {
+        Seen::Power(power)
     }
 }
 
@@ -140,31 +157,9 @@ impl From<u8> for Seen {
     }
 }
 
-impl From<RunRefusal> for Seen {
-    fn from(refusal: RunRefusal) -> Seen {
-        Seen::Refused(refusal.number())
-    }
-}
-
-impl From<JournalRefusal> for Seen {
-    fn from(refusal: JournalRefusal) -> Seen {
-        match refusal {
-            JournalRefusal::NotServed => Seen::Refused(11),
-            JournalRefusal::Full => Seen::Refused(12),
-            JournalRefusal::NotARecord => Seen::Refused(13),
-        }
-    }
-}
-
-impl From<Refusal> for Seen {
-    fn from(refusal: Refusal) -> Seen {
-        Seen::Refused(u8::from(refusal))
-    }
-}
-
 impl From<EngineRecord> for Seen {
     fn from(line: EngineRecord) -> Seen {
-        Seen::Written(line.kind.letter(), line.revision, line.argument)
+        Seen::Written(u8::from(line.kind), line.revision, line.argument)
     }
 }
 
@@ -218,14 +213,14 @@ impl From<CoordinatorEntry> for Seen {
     fn from(entry: CoordinatorEntry) -> Seen {
         match entry {
             CoordinatorEntry::None => Seen::Nothing,
-            CoordinatorEntry::Open { set } => Seen::Opened(set.bits()),
+            CoordinatorEntry::Open { set } => Seen::Opened(u8::from(set)),
             CoordinatorEntry::Collecting { set, voters } => Seen::Collecting(
-                set.bits(),
-                voters.bits(),
+                u8::from(set),
+                u8::from(voters),
             ),
             CoordinatorEntry::Announcing { outcome, awaited } => Seen::Announcing(
                 outcome_of(outcome),
-                awaited.bits(),
+                u8::from(awaited),
             ),
         }
     }
@@ -300,7 +295,7 @@ pub fn answer_seen(answer: Answer, engine: Seen) -> Seen {
 pub fn model_seen<T: Into<Seen>>(done: Result<T, Failure>) -> Result<Seen, Trouble> {
     match done {
         Ok(value) => Ok(value.into()),
-        Err(Failure::Refused(refusal)) => Ok(refusal.into()),
+        Err(Failure::Refused(refusal)) => Ok(Seen::Refused(u8::from(refusal))),
         Err(Failure::Memory) => Err(Trouble::Memory),
     }
 }

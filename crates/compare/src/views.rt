@@ -6,16 +6,18 @@ use model::whole::Model;
 use model::words::Side;
 use presumption::Presumption;
 use run::run::Run;
+use station::coordinator::CoordinatorEntry;
+use station::subordinate::SubordinateEntry;
 
 // How many entries of a station the engine has that are not none, for the revisions opened and one past them.
 fn entries_of<J: Journal, P: Presumption>(run: &Run<J, P>, station: u8, opened: u16) -> usize {
     let stations = run.stations();
-    let coordinating = (0..=opened).filter(|revision| Seen::from(stations.coordinator(
-        station, *revision,
-    )) != Seen::Nothing);
-    let staging = (0..=opened).filter(|revision| Seen::from(stations.subordinate(
-        station, *revision,
-    )) != Seen::Nothing);
+    let coordinating = (0..=opened).filter(|revision| {
+        stations.coordinator(station, *revision) != CoordinatorEntry::None
+    });
+    let staging = (0..=opened).filter(|revision| {
+        stations.subordinate(station, *revision) != SubordinateEntry::None
+    });
     coordinating.count().saturating_add(staging.count())
 }
 
@@ -40,9 +42,8 @@ fn agree_on_stations<J: Journal, P: Presumption>(
     }
     let opened = u16::try_from(model.rows.len()).unwrap_or(u16::MAX);
     for station in 0..served {
-        let lit = !model.dark.holds(station);
         let power = Spot::of("power").at(station);
-        power.agree(Seen::Power(stations.power(station)), Seen::Power(lit))?;
+        power.agree(stations.power(station), !model.dark.holds(station))?;
         let parts = model
             .parts
             .iter()
@@ -72,9 +73,9 @@ fn agree_on_post<J: Journal, P: Presumption>(
 fn row_seen<J: Journal, P: Presumption>(run: &Run<J, P>, revision: u16) -> Seen {
     let row = run.as_run(revision).map(|row| Seen::Row(
         row.coordinator,
-        row.set.bits(),
-        row.installed.bits(),
-        row.dropped.bits(),
+        u8::from(row.set),
+        u8::from(row.installed),
+        u8::from(row.dropped),
     ));
     Seen::from(row)
 }

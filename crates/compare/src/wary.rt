@@ -8,7 +8,7 @@ use presumption::Presumption;
 use presumption::outcome::{Logging, Outcome};
 
 /// Nothing is taken for granted that a record can say.
-#[derive(Clone, Copy)]
+#[derive(Clone, Copy, Debug, PartialEq, Eq)]
 pub struct Wary;
 
 impl Presumption for Wary {

@@ -1,7 +1,7 @@
 //! The questions before each call, each by the refusal that it gives when it is answered no.
 
 use super::sets::Set;
-use super::whole::{Model, REVISIONS};
+use super::whole::Model;
 use super::words::{Call, Entry, Refusal, Side, Verb};
 
 /// What a call asks, in order.
@@ -37,13 +37,10 @@ fn asks(verb: Verb) -> &'static [Refusal] {
 impl Model {
     /// Asks the questions of a call, up to the first that is answered no.
     pub(crate) fn ask(&self, call: &Call) -> Result<(), Refusal> {
-        match asks(call.verb)
+        asks(call.verb)
             .iter()
             .find(|refusal| !self.answers_yes(**refusal, call))
-        {
-            Some(refusal) => Err(*refusal),
-            None => Ok(()),
-        }
+            .map_or(Ok(()), |refusal| Err(*refusal))
     }
 
     /// The answer to the question that a refusal stands for.
@@ -53,7 +50,7 @@ impl Model {
             Refusal::NoSuchStation => self.all_there(call),
             Refusal::NotOpened => usize::from(call.revision) < self.rows.len(),
             Refusal::NoPower => !self.needed(call).meets(self.dark),
-            Refusal::TooManyRevisions => self.rows.len() < usize::from(REVISIONS),
+            Refusal::TooManyRevisions => self.next_revision().is_some(),
             Refusal::EntryForbids => self.allowed(call),
             Refusal::NoMessage => call.place < self.post.len(),
             Refusal::NotDark => self.dark.holds(call.station),

@@ -46,20 +46,29 @@ pub fn found(heap: Global, bytes: &[u8], stations: u8) -> Result<Log, AllocError
     Ok(log)
 }
 
-/// The lines of a station's section; none where it is no section of a byte journal. One that has no room for counts
-/// has no lines.
+/// How many stable and unforced records a section counts, and the bytes behind the counts, if it has room for counts.
+fn counts(section: &[u8]) -> Option<(usize, usize, &[u8])> {
+    let (stable, rest) = section.split_first_chunk::<2>()?;
+    let (unforced, records) = rest.split_first_chunk::<2>()?;
+    Some((
+        usize::from(u16::from_be_bytes(*stable)),
+        usize::from(u16::from_be_bytes(*unforced)),
+        records,
+    ))
+}
+
+/// The lines of a station's section; none where it is no section of a byte journal.
 fn lines_of(heap: Global, station: u8, section: &[u8]) -> Result<Option<Vec<Line>>, AllocError> {
     let mut lines = Vec::new(heap);
-    let Some((counts, records)) = section.split_first_chunk::<4>() else {
+    let Some((stable, unforced, records)) = counts(section) else {
         return Ok(Some(lines));
     };
-    let [a, b, c, d] = *counts;
-    let stable = usize::from(u16::from_be_bytes([a, b]));
-    let counted = stable.wrapping_add(usize::from(u16::from_be_bytes([c, d])));
-    if counted > records.len() / 4 {
+    let counted = stable.wrapping_add(unforced);
+    let (places, _) = records.as_chunks::<4>();
+    if counted > places.len() {
         return Ok(None);
     }
-    for (place, four) in records.chunks(4).take(counted).enumerate() {
+    for (place, four) in places.iter().take(counted).enumerate() {
         let Ok(what) = decode(four) else {
             return Ok(None);
         };
@@ -88,12 +97,14 @@ pub fn imprint(log: &Log, shift: u8, bytes: &mut [u8], stations: u8) {
 
 /// The counts of one station's section, and behind them its records.
 fn imprint_section(log: &Log, station: u8, section: &mut [u8]) {
-    let Some((counts, records)) = section.split_first_chunk_mut::<4>() else {
+    let Some((stable, rest)) = section.split_first_chunk_mut::<2>() else {
         return;
     };
-    let [a, b] = two_bytes(log.count(station, true));
-    let [c, d] = two_bytes(log.count(station, false));
-    *counts = [a, b, c, d];
+    let Some((unforced, records)) = rest.split_first_chunk_mut::<2>() else {
+        return;
+    };
+    *stable = two_bytes(log.count(station, true));
+    *unforced = two_bytes(log.count(station, false));
     let (places, _) = records.as_chunks_mut::<4>();
     let lines = log.lines.iter().filter(|line| line.station == station);
     for (place, line) in places.iter_mut().zip(lines) {

@@ -56,10 +56,10 @@ impl Set {
         self.flags.iter().filter(|flag| **flag).count()
     }
 
-    /// The set with one station's flag as given.
-    fn flagged(mut self, station: u8, as_given: bool) -> Set {
+    /// The set with one station's flag on or off.
+    fn flagged(mut self, station: u8, on: bool) -> Set {
         if let Some(flag) = self.flags.get_mut(usize::from(station)) {
-            *flag = as_given;
+            *flag = on;
         }
         self
     }

@@ -10,7 +10,7 @@ use super::words::{
 use std::alloc::{AllocError, Global};
 
 /// How many revisions there are at most.
-pub(crate) const REVISIONS: u16 = 32;
+const REVISIONS: u16 = 32;
 
 /// How many messages wait at most.
 const WAITING: usize = 64;
@@ -90,6 +90,11 @@ impl Model {
         ))
     }
 
+    /// The number that the next revision gets, as long as there is one.
+    pub(crate) fn next_revision(&self) -> Option<u16> {
+        (0..REVISIONS).nth(self.rows.len())
+    }
+
     /// Makes an entry none.
     fn forget(&mut self, entry: Entry) {
         if let Some(place) = self.parts.iter().position(|part| part.entry == entry) {
@@ -106,7 +111,7 @@ impl Model {
 
     /// The call open, once its questions are asked. Answers the new revision's number.
     fn open(&mut self, coordinator: u8, set: Set) -> Result<u16, Failure> {
-        let revision = u16::try_from(self.rows.len()).map_err(|_| Refusal::TooManyRevisions)?;
+        let revision = self.next_revision().ok_or(Refusal::TooManyRevisions)?;
         self.rows.push(Row {
             coordinator,
             set,
@@ -178,16 +183,14 @@ impl Model {
                 self.log.write(station, what)?;
             }
             Act::Force => self.log.force(station)?,
-            Act::Post(word, receiver) => {
-                if self.post.len() < WAITING {
-                    self.post.push(Message {
-                        word,
-                        revision,
-                        sender: station,
-                        receiver,
-                    })?;
-                }
-            }
+            // What is posted while so many wait is lost, and an act all the same.
+            Act::Post(_, _) if self.post.len() >= WAITING => {}
+            Act::Post(word, receiver) => self.post.push(Message {
+                word,
+                revision,
+                sender: station,
+                receiver,
+            })?,
             Act::Mark(outcome) => {
                 if let Some(row) = self.rows.get_mut(usize::from(revision)) {
                     match outcome {

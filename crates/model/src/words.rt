@@ -63,7 +63,7 @@ pub enum Kind {
 }
 
 /// All kinds of record.
-pub const KINDS: [Kind; 7] = [
+const KINDS: [Kind; 7] = [
     Kind::Opening,
     Kind::Commit,
     Kind::Abort,
