@@ -3,7 +3,7 @@ use Rattle.std.proofs.Common.{◌≡◌, ℕ, zero, suc, ◌+◌, ◌<◌, ◌�
 use mathlib.Core.Path.{fun_ext}
 use lib.Count.{ones}
 use lib.ListN.{length-map}
-use Rattle.std.proofs.lemmas.Bool.{cond-true, cond-false, cases_Bool, cases_lt, true≢false}
+use Rattle.std.proofs.lemmas.Bool.{cond-true, cond-false, cases_Bool, cases_lt, true≢false, lt-ltb, ltb-true, ltb-false}
 use Rattle.std.proofs.lemmas.List.{get_or_past, get_or-map}
 use Rattle.journal.specs.Meaning.{section}
 use Rattle.journal.specs.declared.records.Kind.{Kind}
@@ -28,7 +28,7 @@ use Rattle.station.specs.Acts.{letter}
 use Rattle.station.specs.Coordinator.{announcing, close_move, give_up_move, chase_move, unheard}
 use Rattle.std.specs.List.{range_with_len}
 use Rattle.assurance.proofs.Every.{Full}
-use Rattle.assurance.proofs.View.{lt_true, true_lt, false_lt, kind_as, outcome_as, mail_as, record_as, message_as, co_as, sub_as, station_as, view}
+use Rattle.assurance.proofs.View.{kind_as, outcome_as, mail_as, record_as, message_as, co_as, sub_as, station_as, view}
 use Rattle.std.proofs.ByRecursion.{All-get_or}
 use Rattle.std.proofs.lemmas.List.FromFn.{length-map-range_with_len, get_or-map-range_with_len}
 use Rattle.run.specs.Answers.{answered}
@@ -72,7 +72,7 @@ module _ (π : Answers) (𝓗 : Lawful π) (n : ℕ) (two : 2 ≤ n) (eight : n 
   handed_view u gu m a b c f k = go (power_at u.stations m.receiver)
     where
       here : ltb m.receiver n ≡ true
-      here = lt_true _ n a
+      here = lt-ltb _ n a
 
       go : (p : Bool) → Becomes π 𝓗 n two eight (cond p (moved π m.receiver m.revision (heard π u.stations m) f k u) (reply (answered 0) u)).state
           (cond (cond (ltb m.receiver n) p true) (ideal.handed (presumes π n) (mail_as m.kind) m.revision m.receiver m.sender f k (view n u)) (view n u))
@@ -142,18 +142,18 @@ module _ (π : Answers) (𝓗 : Lawful π) (n : ℕ) (two : 2 ≤ n) (eight : n 
       s = coordinator_of r st
 
       here : ltb (coordinator_of r st) n ≡ true
-      here = lt_true _ n (g.full.near.plans r)
+      here = lt-ltb _ n (g.full.near.plans r)
 
       go : (a b c : Bool) → a ≡ true → ltb r (length st.store.log) ≡ b
           → To (cond a (cond b (cond c (if_allowed π (coordinator_of r st) r (option_map (turning turn.Coordinator) m) f k st) (refuse 4 st)) (refuse 3 st)) (refuse 1 st)).state (cond (cond (ltb (coordinator_of r st) n) c true) w V)
       go false b c e q = absurd (true≢false (sym e))
-      go true false c e q = unchanged _ (same (cond (ltb (coordinator_of r st) n) c true) (not_so (false_lt _ _ q)))
+      go true false c e q = unchanged _ (same (cond (ltb (coordinator_of r st) n) c true) (not_so (ltb-false _ _ q)))
         where
           same : (d : Bool) → w ≡ V → cond d w V ≡ V
           same true z = z
           same false z = refl
       go true true false e q = unchanged _ (ap (λ (d : Bool). cond (cond d false true) w V) here)
-      go true true true e q = moved_to _ w _ (yes_so (true_lt _ _ q)) (sym (ap (λ (d : Bool). cond (cond d true true) w V) here))
+      go true true true e q = moved_to _ w _ (yes_so (ltb-true _ _ q)) (sym (ap (λ (d : Bool). cond (cond d true true) w V) here))
 
   pub close_view : (r f k : ℕ) → To (close_call π r f k st).state (ideal.call Q (ideal.close r f k) V)
   close_view r f k =
@@ -204,10 +204,10 @@ module _ (π : Answers) (𝓗 : Lawful π) (n : ℕ) (two : 2 ≤ n) (eight : n 
           → To (cond a (cond b (cond c (cond d (if_allowed π s r (option_map (turning turn.Subordinate) m) f k st) (refuse 4 st)) (refuse 3 st)) (refuse 2 st)) (refuse 1 st)).state (cond (b && cond b d true) w V)
       go false b c d e p q = absurd (true≢false (sym e))
       go true false c d e p q = unchanged _ refl
-      go true true false true e p q = unchanged _ (not_so (false_lt _ _ q))
+      go true true false true e p q = unchanged _ (not_so (ltb-false _ _ q))
       go true true false false e p q = unchanged _ refl
       go true true true false e p q = unchanged _ refl
-      go true true true true e p q = yes_so (true_lt _ _ p) (true_lt _ _ q)
+      go true true true true e p q = yes_so (ltb-true _ _ p) (ltb-true _ _ q)
 
   pub reject_view : (r s f k : ℕ) → To (reject_call π r s f k st).state (ideal.call Q (ideal.reject r s f k) V)
   reject_view r s f k =
@@ -277,14 +277,14 @@ module _ (π : Answers) (𝓗 : Lawful π) (n : ℕ) (two : 2 ≤ n) (eight : n 
           → To (cond a (cond b (handed π (message_at i st) f k (cond copy st (removed i st))) (refuse 7 st)) (refuse 1 st)).state (cond b (Passes f k (get_or V.post i (ideal.letter ideal.ACK 0 0 0)) (ideal.with_post (cond copy V.post (ideal.drop_at i V.post)) V)) V)
       go false b e q = absurd (true≢false (sym e))
       go true false e q = unchanged V refl
-      go true true e q = delivers i copy f k (true_lt _ _ q)
+      go true true e q = delivers i copy f k (ltb-true _ _ q)
 
   pub lose_view : (i : ℕ) → To (lose_call i st).state (ideal.call Q (ideal.lose i) V)
   lose_view i = go st.fit (ltb i (length st.store.post)) g.shape.fit refl
     where
       go : (a b : Bool) → a ≡ true → ltb i (length st.store.post) ≡ b → To (cond a (cond b (reply (answered 0) (removed i st)) (refuse 7 st)) (refuse 1 st)).state (ideal.with_post (ideal.drop_at i V.post) V)
       go false b e q = absurd (true≢false (sym e))
-      go true false e q = unchanged _ (ap (λ (l : List ideal.Message). ideal.with_post l V) (past i V.post (omega (arith, false_lt i (length st.store.post) q, length-map st.store.post message_as))))
+      go true false e q = unchanged _ (ap (λ (l : List ideal.Message). ideal.with_post l V) (past i V.post (omega (arith, ltb-false i (length st.store.post) q, length-map st.store.post message_as))))
       go true true e q = (left_view i false, (left_good i false).shape)
 
   -- a question changes nothing
@@ -306,7 +306,7 @@ module _ (π : Answers) (𝓗 : Lawful π) (n : ℕ) (two : 2 ≤ n) (eight : n 
       go false b c e q = absurd (true≢false (sym e))
       go true false c e q = unchanged V refl
       go true true false e q = unchanged V refl
-      go true true true e q = (cut_view n s k st (true_lt _ _ q) g.shape, shape_cut n s k st (true_lt _ _ q) g.shape)
+      go true true true e q = (cut_view n s k st (ltb-true _ _ q) g.shape, shape_cut n s k st (ltb-true _ _ q) g.shape)
 
   module _ (s : ℕ) (h : s < n) where
     abbrev L : List Record
@@ -368,7 +368,7 @@ module _ (π : Answers) (𝓗 : Lawful π) (n : ℕ) (two : 2 ≤ n) (eight : n 
     unfolding rebuilt
     rebuilt_as =
         λ i. record {
-          power = ap (λ (c : Bool). cond c true true) (lt_true s n h) i;
+          power = ap (λ (c : Bool). cond c true true) (lt-ltb s n h) i;
           stable = M;
           loose = (V.station s).loose;
           coordinators = fun_ext (λ r. elim (cases_lt r 32) [
@@ -404,4 +404,4 @@ module _ (π : Answers) (𝓗 : Lawful π) (n : ℕ) (two : 2 ≤ n) (eight : n 
       go false b c e q = absurd (true≢false (sym e))
       go true false c e q = unchanged V refl
       go true true true e q = unchanged V refl
-      go true true false e q = restarts s (true_lt _ _ q)
+      go true true false e q = restarts s (ltb-true _ _ q)

@@ -31,13 +31,13 @@ use Rattle.assurance.proofs.Sets.{del_back}
 use Rattle.assurance.proofs.Rules.{Rule, acts_of, turn_of, Why}
 use Rattle.assurance.proofs.Rules as rule
 use Rattle.assurance.proofs.View.{outcome_as, logging_as, mail_as, record_as, co_as, sub_as, act_as, view}
-use Rattle.assurance.proofs.Performed.{map_join}
 use Rattle.run.specs.Calls.{heard}
 use Rattle.station.specs.Moves.{Move}
 use Rattle.station.specs.Coordinator.{on_yes, on_no, on_ack, on_inquiry}
 use Rattle.station.specs.Subordinate.{on_prepare, on_commit, on_abort}
 use Rattle.assurance.proofs.Lasting.{world, CoLegal, SubLegal}
 use Rattle.assurance.proofs.Moves.{outcome_from, presumes, Within, with_as, without_as, each_as, telling_as, from_as, Good, Does, Turns, stays_co, stays_sub, by_rule, rest_co, rest_sub}
+use Rattle.std.proofs.lemmas.List.{map-append}
 
 module _ (π : Answers) (𝓗 : Lawful π) (n : ℕ) (two : 2 ≤ n) (eight : n ≤ 8) (st : State) (g : Good π 𝓗 n two eight st) where
   abbrev V : ideal.Run
@@ -95,8 +95,8 @@ module _ (π : Answers) (𝓗 : Lawful π) (n : ℕ) (two : 2 ≤ n) (eight : n 
 
   abort_acts : (r s : ℕ) (x y : StationSet) → (x.bits ≡ 0 → ⊥) → Within n y.bits → map act_as (abort π s r x y) ≡ ideal.abort_acts Q r s x.bits y.bits
   abort_acts r s x y h w =
-      map_join act_as (logged π.abort_logging (line kind.Abort r x.bits)) (post_each message.Abort r s y ++ if_so (π.acknowledges outcome.Abort && empty y) (write (line kind.End r 0) ∷ []))
-      ∙ (λ i. log_as π.abort_logging (line kind.Abort r x.bits) i ++ (map_join act_as (post_each message.Abort r s y) (if_so (π.acknowledges outcome.Abort && empty y) (write (line kind.End r 0) ∷ []))
+      map-append act_as (logged π.abort_logging (line kind.Abort r x.bits)) (post_each message.Abort r s y ++ if_so (π.acknowledges outcome.Abort && empty y) (write (line kind.End r 0) ∷ []))
+      ∙ (λ i. log_as π.abort_logging (line kind.Abort r x.bits) i ++ (map-append act_as (post_each message.Abort r s y) (if_so (π.acknowledges outcome.Abort && empty y) (write (line kind.End r 0) ∷ []))
       ∙ (λ j. each_as n message.Abort r s y eight w j ++ go (π.acknowledges outcome.Abort) j)) i)
     where
       go : (b : Bool) → map act_as (if_so (b && empty y) (write (line kind.End r 0) ∷ [])) ≡ cond (not (eqb (cond b x.bits 0) 0) && eqb (cond b y.bits 0) 0) (ideal.write (ideal.line ideal.kE r 0) ∷ []) []

@@ -1,9 +1,8 @@
 -- What holds of the ideal run, said of a run.
 use Rattle.std.proofs.Common.{◌≡◌, ℕ, zero, suc, ◌+◌, ◌*◌, ◌^◌, ◌<◌, ◌≤◌, Bool, true, false, cond, not, ◌&&◌, eqb, ltb, leb, ◌↔◌, List, [], ◌∷◌, map, length, get_or, sym, refl, ap, ◌∙◌, subst, inl, inr, mul-le-mul_right, arith}
 use lib.ListN.{length-map}
-use Rattle.std.proofs.lemmas.Bool.Decides.{nat_tests}
-use Rattle.std.proofs.lemmas.Bool.{cond-true, cond-false, cases_lt, eqb-true, and_parts}
-use Rattle.std.proofs.lemmas.List.{get_or_past}
+use Rattle.std.proofs.lemmas.Bool.{cond-true, cond-false, cases_lt, eqb-true, and_parts, ltb-true, leb-true, le-ltb, lt-ltb}
+use Rattle.std.proofs.lemmas.List.{get_or_past, nil_from_length}
 use Rattle.std.specs.List.{AllByRecursion, range_with_len}
 use Rattle.journal.specs.Meaning.{Section, section, held, no_section}
 use Rattle.journal.specs.declared.records.Kind.{Kind}
@@ -21,7 +20,7 @@ use Rattle.assurance.proofs.Sets.{mem_below}
 use Rattle.assurance.proofs.Every.{doubt_is, is_doubt, Full}
 use Rattle.assurance.proofs.Lasting.{world}
 use Rattle.assurance.proofs.SafeRules.{has_legal}
-use Rattle.assurance.proofs.View.{true_lt, kind_as, outcome_as, record_as, message_as, co_as, sub_as, station_as, view}
+use Rattle.assurance.proofs.View.{kind_as, outcome_as, record_as, message_as, co_as, sub_as, station_as, view}
 use lib.ListN.{get_or-replicate, length-replicate}
 use Rattle.std.proofs.ByRecursion.{All-weaker}
 use Rattle.run.specs.Answers.{answered}
@@ -48,21 +47,10 @@ use Rattle.assurance.specs.Outcomes.{InDoubt, Undecided, Dropped, Lacks, AllPowe
 
 fits_small : (n c a : ℕ) → ideal.fits n c a ≡ true → a < 2 ^ n
 unfolding ideal.fits
-fits_small n c a e = true_lt _ _ (and_parts (ltb a (2 ^ n)) (not (eqb a 0)) (and_parts (ltb c n) (ltb a (2 ^ n) && not (eqb a 0)) e).1).0
-
--- a journal that is ready
-lone : {X : Type 0} (l : List X) → length l ≡ 0 → l ≡ []
-lone [] e = refl
-lone (x ∷ l) e = absurd (omega arith)
+fits_small n c a e = ltb-true _ _ (and_parts (ltb a (2 ^ n)) (not (eqb a 0)) (and_parts (ltb c n) (ltb a (2 ^ n) && not (eqb a 0)) e).1).0
 
 none_mapped : {X Y : Type 0} (f : X → Y) (l : List X) → map f l ≡ [] → l ≡ []
-none_mapped f l e = lone l (sym (length-map l f) ∙ ap length e)
-
-eqb_is : (a b : ℕ) → eqb a b ≡ true → a ≡ b
-eqb_is a b e = eqb-true a b e
-
-leb_is : (a b : ℕ) → leb a b ≡ true → a ≤ b
-leb_is a b e = grind (arith, nat_tests)
+none_mapped f l e = nil_from_length l (sym (length-map l f) ∙ ap length e)
 
 pub record Blank (p : Section) : Type 0 where
   pub stable : p.stable ≡ []
@@ -72,7 +60,7 @@ ready_blank : (p : Section) → ready p ≡ true → Blank p × (160 ≤ p.capac
 ready_blank p e =
     let a = and_parts (leb 160 p.capacity) (eqb (length p.stable) 0 && eqb (length p.unforced) 0) e in
     let b = and_parts (eqb (length p.stable) 0) (eqb (length p.unforced) 0) a.1 in
-    (record { stable = lone p.stable (eqb_is _ _ b.0); unforced = lone p.unforced (eqb_is _ _ b.1) }, leb_is _ _ a.0)
+    (record { stable = nil_from_length p.stable (eqb-true _ _ b.0); unforced = nil_from_length p.unforced (eqb-true _ _ b.1) }, leb-true _ _ a.0)
 
 ready_at : (m : List Section) (s : ℕ) → all_ready m ≡ true → s < length m → Blank (section m s) × (160 ≤ (section m s).capacity)
 unfolding all_ready
@@ -122,7 +110,7 @@ module _ (π : Answers) (𝓗 : Lawful π) (m : List Section) (ok : fits m ≡ t
   sizes =
       let a = and_parts (leb 2 (length m)) (leb (length m) 8 && all_ready m) ok in
       let b = and_parts (leb (length m) 8) (all_ready m) a.1 in
-      (leb_is _ _ a.0, leb_is _ _ b.0, b.1)
+      (leb-true _ _ a.0, leb-true _ _ b.0, b.1)
 
   abbrev Q : ideal.Presumption
   Q = presumes π n
@@ -140,15 +128,12 @@ module _ (π : Answers) (𝓗 : Lawful π) (m : List Section) (ok : fits m ≡ t
   fresh_station s =
       elim (cases_lt s n) [
         | inl l ↦ ap (station_as n s (section m s)) (one_station s l) ∙ (λ i. record { power = on (ltb s n) i; stable = map record_as ((blank_at m s sizes.2).stable i); loose = map record_as ((blank_at m s sizes.2).unforced i); coordinators = λ r. blank_co r i; subordinates = λ r. blank_sub r i })
-        | inr l ↦ ap (station_as n s (section m s)) (get_or_past (fresh m).stations s no_station (omega (arith, length-replicate n (blank true)))) ∙ (λ i. record { power = cond-false (ltb s n) false true (off l) i; stable = map record_as ((blank_at m s sizes.2).stable i); loose = map record_as ((blank_at m s sizes.2).unforced i); coordinators = λ r. ideal.none; subordinates = λ r. ideal.idle })
+        | inr l ↦ ap (station_as n s (section m s)) (get_or_past (fresh m).stations s no_station (omega (arith, length-replicate n (blank true)))) ∙ (λ i. record { power = cond-false (ltb s n) false true (le-ltb s n l) i; stable = map record_as ((blank_at m s sizes.2).stable i); loose = map record_as ((blank_at m s sizes.2).unforced i); coordinators = λ r. ideal.none; subordinates = λ r. ideal.idle })
       ]
     where
       on : (b : Bool) → cond b (blank true).power true ≡ true
       on true = blank_power
       on false = refl
-
-      off : n ≤ s → ltb s n ≡ false
-      off l = grind (arith, nat_tests)
 
   fresh_view : view n (fresh m) ≡ told.new
   fresh_view = λ i. record { station = λ s. fresh_station s i; post = []; plan = λ r. record { coordinator = 0; names = 0 }; count = 0; installed_at = λ r. 0; dropped_at = λ r. 0 }
@@ -250,7 +235,7 @@ module _ (π : Answers) (𝓗 : Lawful π) (m : List Section) (ok : fits m ≡ t
     prepared_is (subordinate.Prepared c) d q = cc
 
     powered_is : (s : ℕ) → s < n → (V.station s).power ≡ power_at st.stations s
-    powered_is s l = cond-true (ltb s n) _ _ (grind (arith, nat_tests))
+    powered_is s l = cond-true (ltb s n) _ _ (lt-ltb s n l)
 
     doubt : (r s : ℕ) → InDoubt st r s ↔ Undecided st r s
     doubt r s = (

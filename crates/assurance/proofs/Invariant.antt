@@ -4,11 +4,11 @@ use Rattle.std.specs.List.{AllByRecursion, range_with_len}
 use Rattle.std.proofs.ByRecursion.{All-get_or}
 use Rattle.std.proofs.lemmas.Bool.Decides.{nat_tests}
 use Rattle.std.proofs.lemmas.Bool.{cond_both, cases_Bool, true≢false, eqb-true, and_parts, not-true, ltb-true}
-use Rattle.assurance.proofs.Ideal.{in_set, with_station, without_station, members, Kind, kI, kC, kA, kE, kp, kc, ka, code, Record, has, argument_of, Outcome, commit, abort, CoordinatorEntry, none, Open, Collecting, Announcing, SubordinateEntry, idle, Active, Prepared, Station, MessageKind, PREPARE, YES, NO, COMMIT, ABORT, ACK, INQUIRY, Message, Plan, Run, Presumption, Logging, not_at_all, unforced, forced, at_station, written_station, forced_station, cut_station, set_coordinator, set_subordinate, with_post, write, force, send, stay, to_coordinator, to_subordinate, step, line, letter, send_each, outcome_mail, outcome_kind, await, logged, commit_acts, end_acts, abort_acts, force_if, ack_if, enforce_acts, reject_acts, prepare_acts, upon_prepare, upon_yes, decide_abort, upon_no, upon_outcome, upon_ack, upon_inquiry, upon_close, upon_give_up, upon_reject, upon_chase, upon_inquire, handed, restarted_station, upon_open, drop_at, Call, open_revision, close, give_up, chase, reject, inquire, deliver, lose, cut, restart, settle, look, load, all_powered, hand_first, drain, emptied, nudge, urged, asked, inquire_all, revise, revise_all, settled, fits, call, calls}
+use Rattle.assurance.proofs.Ideal.{in_set, with_station, without_station, members, Kind, kI, kC, kA, kE, kp, kc, ka, code, Record, has, argument_of, Outcome, commit, abort, CoordinatorEntry, none, Open, Collecting, Announcing, SubordinateEntry, idle, Active, Prepared, Station, MessageKind, PREPARE, YES, NO, COMMIT, ABORT, ACK, INQUIRY, Message, Plan, Run, Presumption, Logging, not_at_all, unforced, forced, at_station, written_station, forced_station, cut_station, set_coordinator, set_subordinate, with_post, write, force, send, stay, to_coordinator, to_subordinate, step, line, letter, send_each, outcome_mail, outcome_kind, await, logged, commit_acts, end_acts, abort_acts, force_if, ack_if, enforce_acts, reject_acts, prepare_acts, upon_prepare, upon_yes, decide_abort, upon_no, upon_outcome, upon_ack, upon_inquiry, upon_close, upon_give_up, upon_reject, upon_chase, upon_inquire, handed, restarted_station, upon_open, drop_at, Call, open_revision, close, give_up, chase, reject, inquire, deliver, lose, cut, restart, settle, look, load, all_powered, hand_first, drain, emptied, nudge, urged, asked, inquire_all, revise, revise_all, settled, fits, call}
 use Rattle.assurance.proofs.Lasting.{No, Doom, world, head, Abort, Legal, RecLegal, CoLegal}
 use Rattle.assurance.proofs.SafeActs.{SafeSt, safe_cut}
 use Rattle.assurance.proofs.Claims.{Laws}
-use Rattle.assurance.proofs.SafeRules.{TidyS, has_legal, excl, safe_inquiry, safe_ack, safe_commit, safe_abort, safe_prepare, safe_give_up, safe_no, safe_reject}
+use Rattle.assurance.proofs.SafeRules.{TidyS, has_legal, safe_inquiry, safe_ack, safe_commit, safe_abort, safe_prepare, safe_give_up, safe_no, safe_reject}
 use Rattle.assurance.proofs.SafeCalls.{safe_yes, safe_chase, safe_inquire, safe_close, safe_restart}
 use Rattle.assurance.proofs.SafeOpen.{safe_open}
 use Rattle.assurance.proofs.Tidy.{locals, locals_send, tidy_cut, tidy_prepare, tidy_enforce, tidy_commit, tidy_end, tidy_restart}
@@ -290,14 +290,6 @@ module _ (π : Presumption) (𝓛 : Laws π) where
       (λ _. h)
   inv_call settle st h = cond_both (all_powered (range_with_len 0 π.size) st) (settled π st).left st Inv (λ _. inv_settled st h) (λ _. h)
   inv_call look st h = h
-
-  pub inv_calls : (cs : List Call) (st : Run) → Inv st → Inv (calls π cs st)
-  inv_calls [] st h = h
-  inv_calls (c ∷ cs) st h = inv_calls cs (call π c st) (inv_call c st h)
-
-  -- installed and dropped exclude each other
-  pub one_outcome : (cs : List Call) (st : Run) → Inv st → (r s t : ℕ) → in_set ((calls π cs st).installed_at r) s ≡ true → in_set ((calls π cs st).dropped_at r) t ≡ true → ⊥
-  one_outcome cs st h r s t i d = let k = (inv_calls cs st h).safe in excl π (calls π cs st) k r (k.installs r s i).1 (k.drops r t d).1
 
   -- what is surely aborted has no commit record anywhere, stable or not
   pub no_commit : (st : Run) → SafeSt π st → (r s : ℕ) → Abort (world st) r → No kC r (st.station s)

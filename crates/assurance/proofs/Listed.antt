@@ -1,6 +1,6 @@
 -- Settling does to the view what the ideal run's settling does, delivery by delivery.
 use Rattle.std.proofs.Common.{◌≡◌, ℕ, zero, suc, ◌+◌, ◌<◌, ◌≤◌, Bool, true, false, cond, ◌&&◌, ltb, List, [], ◌∷◌, map, length, get_or, sym, refl, ap, ◌∙◌, subst, arith}
-use Rattle.std.proofs.lemmas.Bool.{cond-true, true≢false}
+use Rattle.std.proofs.lemmas.Bool.{cond-true, true≢false, lt-ltb}
 use Rattle.std.specs.List.{AllByRecursion, range_with_len}
 use Rattle.presumption.specs.Answers.{Answers, Lawful}
 use Rattle.station.specs.declared.coordinator.CoordinatorEntry.{CoordinatorEntry}
@@ -15,7 +15,7 @@ use Rattle.stations.specs.Stations.{subordinate_at}
 use Rattle.assurance.proofs.Ideal as ideal
 use Rattle.assurance.proofs.Every.{Full}
 use Rattle.assurance.proofs.Loads.{same_drain}
-use Rattle.assurance.proofs.View.{lt_true, mail_as, message_as, co_as, sub_as, view}
+use Rattle.assurance.proofs.View.{mail_as, message_as, co_as, sub_as, view}
 use Rattle.run.specs.Answers.{answered}
 use Rattle.run.specs.Calls.{reply, refuse, coordinator_of, coordinator_entry}
 use Rattle.assurance.specs.declared.calls.Call.{Call}
@@ -73,7 +73,7 @@ module _ (π : Answers) (𝓗 : Lawful π) (n : ℕ) (two : 2 ≤ n) (eight : n 
   first_is : (v : ideal.Run) (m : ideal.Message) (ms : List ideal.Message) → v.post ≡ m ∷ ms → ideal.call Q (ideal.deliver 0 false 255 0) v ≡ ideal.hand_first Q m (ideal.with_post ms v)
   first_is v m ms e =
       ap (λ (p : List ideal.Message). cond (ltb 0 (length p)) (pass (get_or p 0 (ideal.letter ideal.ACK 0 0 0)) (ideal.with_post (ideal.drop_at 0 p) v)) v) e
-      ∙ cond-true (ltb 0 (length (m ∷ ms))) _ _ (lt_true 0 (length (m ∷ ms)) (omega arith))
+      ∙ cond-true (ltb 0 (length (m ∷ ms))) _ _ (lt-ltb 0 (length (m ∷ ms)) (omega arith))
     where
       pass : ideal.Message → ideal.Run → ideal.Run
       pass m u = cond (u.station m.to).power (ideal.handed Q m.mail m.revision m.to m.from 255 0 u) u
@@ -98,7 +98,7 @@ module _ (π : Answers) (𝓗 : Lawful π) (n : ℕ) (two : 2 ≤ n) (eight : n 
           let t = deliver_view π 𝓗 n two eight x.state g 0 false 255 0 in
           let q : view n (first_delivered π x).state ≡ ideal.hand_first Q (message_as m) (ideal.with_post (map message_as ms) (view n x.state)) = t.0 ∙ first_is (view n x.state) (message_as m) (map message_as ms) (ap (map message_as) e) in
           let one : x.deliveries + 1 ≡ suc x.deliveries = omega arith in
-          subst (λ (y : Progress). Same y (ideal.drain Q (suc k) (map message_as (m ∷ ms)) (view n x.state) x.deliveries)) (sym (cond-true (ltb 0 (length (m ∷ ms))) (delivered π k (first_delivered π x)) x (lt_true 0 (length (m ∷ ms)) (omega arith))))
+          subst (λ (y : Progress). Same y (ideal.drain Q (suc k) (map message_as (m ∷ ms)) (view n x.state) x.deliveries)) (sym (cond-true (ltb 0 (length (m ∷ ms))) (delivered π k (first_delivered π x)) x (lt-ltb 0 (length (m ∷ ms)) (omega arith))))
           (moved_same _ _ _ (more (first_delivered π x) (next_good x.state _ (ideal.deliver 0 false 255 0) g t)) (λ i. ideal.drain Q k (q i).post (q i) (one i)))
 
   drained_view : (x : Progress) → Fine x.state → Same (drained π x) (ideal.emptied Q (view n x.state) x.deliveries)
@@ -143,7 +143,7 @@ module _ (π : Answers) (𝓗 : Lawful π) (n : ℕ) (two : 2 ≤ n) (eight : n 
       go (subordinate.Active c) q = (sym (ap (λ (c : SubordinateEntry). cond ((view n st).station s).power (ideal.upon_inquire Q r s (sub_as c) 255 0 (view n st)) (view n st)) q ∙ same_cond _ (view n st)), g.shape)
       go (subordinate.Prepared c) q =
           let t = inquire_view π 𝓗 n two eight st g r s 255 0 in
-          (t.0 ∙ ap (λ (b : Bool). cond (b && ((view n st).station s).power) (ideal.upon_inquire Q r s (((view n st).station s).subordinates r) 255 0 (view n st)) (view n st)) (lt_true s n l), t.1)
+          (t.0 ∙ ap (λ (b : Bool). cond (b && ((view n st).station s).power) (ideal.upon_inquire Q r s (((view n st).station s).subordinates r) 255 0 (view n st)) (view n st)) (lt-ltb s n l), t.1)
 
   fine_urged : (r : ℕ) (st u : State) → Fine st → To u (ideal.urged Q r (view n st)) → Fine u
   fine_urged r st u g t = record { shape = t.1; full = subst (Full Q (laws π 𝓗 n two eight)) (sym t.0) (full_urged Q (laws π 𝓗 n two eight) r (view n st) g.full) }

@@ -16,6 +16,7 @@ use Rattle.assurance.proofs.Loads.{empty, load_handed}
 use Rattle.assurance.proofs.Whole.{On, Aside, aside_refl, aside_trans, Sure, Rested, Calm, on_moved, aside_moved, co_moved, sure_moved, co_now, aside_did, on_first, first_on}
 use Rattle.assurance.proofs.UnderWay.{In, in_left, in_last, elem_members, letters, letters_sends, room_post, post_acts, post_turn, CoPend, MildOf, Mild, Tri, mid_first, rest_of, mild_sends, in_sends, told}
 use Rattle.assurance.proofs.Settled.{sure_far, tri_of, few_sends}
+use Rattle.std.proofs.lemmas.List.{nil_from_length}
 
 -- how many members
 abbrev pub card : ℕ → ℕ → ℕ
@@ -201,16 +202,12 @@ module _ (π : Presumption) (𝓛 : Laws π) (r c all : ℕ) (st0 : Run) (sets :
         },
       )
 
-  nil_of : (ms : List Message) → length ms ≤ 0 → ms ≡ []
-  nil_of [] h = refl
-  nil_of (m ∷ ms) h = absurd (omega arith)
-
   last_vote : (b t : ℕ) (ms : List Message) (st : Run) (v : Voting b (with_post (letter YES r t c ∷ ms) st)) → SafeSt π st → with_station v.ys t ≡ all → (d : ℕ) × (suc d ≤ b) × Telling d (step c (commit_acts π r c all) (to_coordinator r (await commit (π.ackers commit all))) 255 0 (with_post ms st))
   last_vote b t ms st v h e =
       let few = v.few in
       let left = v.left in
       let ca : card π.size all ≤ suc (card π.size v.ys) = subst (λ (x : ℕ). card π.size x ≤ suc (card π.size v.ys)) e (card_add π.size v.ys t) in
-      let nil = nil_of ms (omega arith) in
+      let nil = nil_from_length ms (omega arith) in
       let out = send_each COMMIT r c (members π.size all) in
       let aw = await commit (π.ackers commit all) in
       let w = turn c (to_coordinator r aw) (acts_done c (commit_acts π r c all) (with_post ms st)) in

@@ -3,9 +3,8 @@ use Rattle.std.proofs.Common.{◌≡◌, ℕ, ◌^◌, ◌<◌, ◌≤◌, Bool,
 use mathlib.Core.Path.{fun_ext}
 use lib.Bits.{bit_or}
 use lib.ListN.{length-map}
-use Rattle.std.proofs.lemmas.Bool.Decides.{nat_tests}
-use Rattle.std.proofs.lemmas.Bool.{cond-true, cond-false, cases_eq, cases_lt, eq-eqb}
-use Rattle.std.proofs.lemmas.List.{map_push, take-map, get_or_past}
+use Rattle.std.proofs.lemmas.Bool.{cond-true, cond-false, cases_eq, cases_lt, eq-eqb, lt-ltb}
+use Rattle.std.proofs.lemmas.List.{map_push, take-map, get_or_past, map-append}
 use Rattle.std.specs.List.{AllByRecursion}
 use Rattle.journal.specs.Meaning.{Section, section, held, changed, write_answer, written, cut_to, put, force_all, keep_first}
 use Rattle.journal.specs.declared.records.Record.{Record}
@@ -37,17 +36,10 @@ use Rattle.assurance.proofs.Tidy.{local, locals, at_act}
 use Rattle.assurance.proofs.Room.{records, grows, grows_take}
 use Rattle.assurance.proofs.View.{record_as, message_as, co_as, sub_as, act_as, turn_as, station_as, net_of, parts, view, Shape, fun_at, record_here, record_there, station_here, station_there}
 
-pub map_join : {X Y : Type 0} (f : X → Y) (xs ys : List X) → map f (xs ++ ys) ≡ map f xs ++ map f ys
-map_join f [] ys = refl
-map_join f (x ∷ xs) ys = ap (λ l. f x ∷ l) (map_join f xs ys)
-
 -- a write that there is room for
 answers_0 : (j : List Section) (s : ℕ) → s < length j → held (section j s) < (section j s).capacity → write_answer j s ≡ 0
-answers_0 j s h k = ok (ltb s (length j)) (ltb (held (section j s)) (section j s).capacity) (lt _ _ h) (lt _ _ k)
+answers_0 j s h k = ok (ltb s (length j)) (ltb (held (section j s)) (section j s).capacity) (lt-ltb _ _ h) (lt-ltb _ _ k)
   where
-    lt : (a b : ℕ) → a < b → ltb a b ≡ true
-    lt a b h = grind (arith, nat_tests)
-
     ok : (a b : Bool) → a ≡ true → b ≡ true → ◌≡◌ {A = ℕ} (cond a (cond b 0 12) 11) 0
     ok a b p q = rw (p, q) refl
 
@@ -82,7 +74,7 @@ module _ (n : ℕ) where
       go false = refl
 
   pub single_is : (s : ℕ) → s < 8 → single s ≡ 2 ^ s
-  single_is s h = cond-true (ltb s 8) _ _ (grind (arith, nat_tests))
+  single_is s h = cond-true (ltb s 8) _ _ (lt-ltb s 8 h)
 
   row_here : (o : Outcome) (r s : ℕ) (l : List Row) → r < length l → row_at (marked o r s l) r ≡ mark_row o s (row_at l r)
   row_here o r s l h = get_or-set_same l r (mark_row o s (row_at l r)) (row 0 (of_bits 0)) h
@@ -109,7 +101,7 @@ module _ (n : ℕ) where
   act_view s force st h k c =
       ap (λ (f : ℕ → ideal.Station). record { station = f; post = (view n st).post; plan = (view n st).plan; count = (view n st).count; installed_at = (view n st).installed_at; dropped_at = (view n st).dropped_at })
       (in_section force_all ideal.forced_station s st h k
-      (λ p y. ap (λ (l : List ideal.Record). record { power = (station_as n s p y).power; stable = l; loose = []; coordinators = (station_as n s p y).coordinators; subordinates = (station_as n s p y).subordinates }) (map_join record_as p.stable p.unforced)))
+      (λ p y. ap (λ (l : List ideal.Record). record { power = (station_as n s p y).power; stable = l; loose = []; coordinators = (station_as n s p y).coordinators; subordinates = (station_as n s p y).subordinates }) (map-append record_as p.stable p.unforced)))
   act_view s (post m) st h k c =
       ap (λ (l : List ideal.Message). record { station = (view n st).station; post = l; plan = (view n st).plan; count = (view n st).count; installed_at = (view n st).installed_at; dropped_at = (view n st).dropped_at }) (post_view m st.store.post)
   act_view s (mark_installed r) st h k c =
@@ -296,15 +288,12 @@ module _ (n : ℕ) where
   unfolding blank
   cut_station s k p x h =
       λ i. record {
-        power = cond-true (ltb s n) false true (lt h) i;
-        stable = (map_join record_as p.stable (take k p.unforced) ∙ ap (λ (l : List ideal.Record). map record_as p.stable ++ l) (sym (take-map record_as k p.unforced))) i;
+        power = cond-true (ltb s n) false true (lt-ltb s n h) i;
+        stable = (map-append record_as p.stable (take k p.unforced) ∙ ap (λ (l : List ideal.Record). map record_as p.stable ++ l) (sym (take-map record_as k p.unforced))) i;
         loose = [];
         coordinators = λ r. ap co_as (same_entry 32 r coordinator.None) i;
         subordinates = λ r. ap sub_as (same_entry 32 r subordinate.None) i;
       }
-    where
-      lt : s < n → ltb s n ≡ true
-      lt h = grind (arith, nat_tests)
 
   pub cut_view : (s k : ℕ) (st : State) → s < n → Shape n st → view n (cut_off s k st) ≡ ideal.at_station s (ideal.cut_station k) (view n st)
   unfolding journal_cut

@@ -1,8 +1,7 @@
 -- A whole step of a rule finds room in a journal of 160 records.
-use Rattle.std.proofs.Common.{◌≡◌, ℕ, zero, suc, ◌+◌, ◌<◌, ◌≤◌, Bool, true, false, not, ◌&&◌, eqb, ltb, List, [], ◌∷◌, length, take, refl, arith, length-append}
+use Rattle.std.proofs.Common.{◌≡◌, ℕ, zero, suc, ◌+◌, ◌<◌, ◌≤◌, Bool, true, false, not, ◌&&◌, eqb, List, [], ◌∷◌, length, take, refl, arith, length-append}
 use Rattle.std.specs.List.{AllByRecursion}
 use Rattle.std.proofs.ByRecursion.{All-weaker, All-push, All-append}
-use Rattle.std.proofs.lemmas.Bool.Decides.{nat_tests}
 use Rattle.std.proofs.lemmas.Bool.{cond_both}
 use Rattle.assurance.proofs.Ideal.{members, kI, kA, kE, Record, commit, abort, Station, MessageKind, PREPARE, COMMIT, ABORT, Run, Presumption, Logging, not_at_all, unforced, forced, written_station, forced_station, Act, write, force, send, installed, dropped, Turn, stay, to_coordinator, to_subordinate, line, send_each, outcome_mail, logged, end_acts, force_if, ack_if}
 use Rattle.assurance.proofs.Claims.{Laws}
@@ -31,9 +30,6 @@ grows_take (suc f) (force ∷ l) y = grows_take f l (forced_station y)
 grows_take (suc f) (send m ∷ l) y = grows_take f l y
 grows_take (suc f) (installed r ∷ l) y = grows_take f l y
 grows_take (suc f) (dropped r ∷ l) y = grows_take f l y
-
-lt_yes : (a b : ℕ) → a < b → ltb a b ≡ true
-lt_yes a b h = grind (arith, nat_tests)
 
 -- every record of a step is of its revision
 abbrev RevA : ℕ → Act → Type 0

@@ -1,7 +1,6 @@
 -- A run seen as an ideal run: stations, entries and rows by their numbers, writes that always succeed.
-use Rattle.std.proofs.Common.{◌≡◌, ℕ, ◌<◌, ◌≤◌, Bool, true, false, cond, ◌&&◌, ◌||◌, eqb, ltb, List, [], ◌∷◌, map, length, get_or, set, is_some, Some, sym, refl, ap, ◌∙◌, subst, inl, inr, arith, get_or-set_other, get_or-set_same}
+use Rattle.std.proofs.Common.{◌≡◌, ℕ, ◌<◌, ◌≤◌, Bool, true, false, cond, ◌&&◌, ◌||◌, eqb, ltb, List, [], ◌∷◌, map, length, get_or, set, is_some, Some, sym, refl, ap, ◌∙◌, subst, inl, inr, get_or-set_other, get_or-set_same}
 use mathlib.Core.Path.{fun_ext}
-use Rattle.std.proofs.lemmas.Bool.Decides.{nat_tests}
 use Rattle.std.proofs.lemmas.Bool.{cond-true, cond-false, cases_eq, eq-eqb, ne_eqb}
 use Rattle.journal.specs.Meaning.{Section, section, changed, no_section}
 use Rattle.journal.specs.Records.{letter_of}
@@ -131,19 +130,6 @@ pub record Shape (n : ℕ) (st : State) : Type 0 where
   pub sets : (r : ℕ) → r < length st.store.log → (row_at st.store.log r).set.bits ≡ 0 → ⊥
 
 -- a list with one element changed, read anywhere
-
--- tests of numbers, and what they say
-pub lt_true : (a b : ℕ) → a < b → ltb a b ≡ true
-lt_true a b h = grind (arith, nat_tests)
-
-pub lt_false : (a b : ℕ) → b ≤ a → ltb a b ≡ false
-lt_false a b h = grind (arith, nat_tests)
-
-pub true_lt : (a b : ℕ) → ltb a b ≡ true → a < b
-true_lt a b h = grind (arith, nat_tests)
-
-pub false_lt : (a b : ℕ) → ltb a b ≡ false → b ≤ a
-false_lt a b h = grind (arith, nat_tests)
 
 -- a function changed at one place
 pub fun_at : {X : Type 0} (f g : ℕ → X) (i : ℕ) (v : X) → g i ≡ v → ((j : ℕ) → (i ≡ j → ⊥) → g j ≡ f j) → g ≡ ideal.updated f i v

@@ -1,8 +1,7 @@
 //! The calls of a run as values.
 ghost use Rattle.std.specs.Prelude.{◌≡◌, IfOk};
 ghost use Rattle.assurance.specs.Lists.{called};
-ghost use Rattle.assurance.specs.Values.{reported, CountsActs, Suits};
-ghost use Rattle.run.specs.Answers.{answer_of, plain_answer};
+ghost use Rattle.assurance.specs.Values.{reported, Suits};
 ghost use Rattle.run.specs.Calls.{reply};
 ghost use Rattle.run.specs.Runs.{seen};
 
@@ -85,23 +84,6 @@ pub enum Value {
     Awaited(Awaited),
 }
 
-// What a call answers that counts its acts.
-fn acts(answer: Result<u8, Refusal>) -> Result<Value, Refusal>
-    ensures same { reported result ≡ answer_of answer }
-    ensures suits { IfOk result CountsActs }
-{
-    Ok(Value::Acts(answer?))
-}
-
-// What a call answers that has nothing to count.
-fn nothing(answer: Result<(), Refusal>) -> Result<Value, Refusal>
-    ensures same { reported result ≡ plain_answer answer }
-    ensures suits { IfOk result (λ v. v ≡ Value.Nothing) }
-{
-    answer?;
-    Ok(Value::Nothing)
-}
-
 /// Makes a call of a run.
 pub fn perform<J: Journal, P: Presumption>(
     run: &mut Run<J, P>,
@@ -112,44 +94,44 @@ pub fn perform<J: Journal, P: Presumption>(
     ensures presumes { run.new.presumption ≡ run.old.presumption }
 {
     match call {
-        Call::Open { coordinator, set } => Ok(Value::Revision(run.open(coordinator, set)?)),
+        Call::Open { coordinator, set } => run.open(coordinator, set).map(Value::Revision),
         Call::Close {
             revision,
             fuse,
             kept,
-        } => acts(run.close(revision, fuse, kept)),
+        } => run.close(revision, fuse, kept).map(Value::Acts),
         Call::GiveUp {
             revision,
             fuse,
             kept,
-        } => acts(run.give_up(revision, fuse, kept)),
+        } => run.give_up(revision, fuse, kept).map(Value::Acts),
         Call::Chase {
             revision,
             fuse,
             kept,
-        } => acts(run.chase(revision, fuse, kept)),
+        } => run.chase(revision, fuse, kept).map(Value::Acts),
         Call::Reject {
             revision,
             station,
             fuse,
             kept,
-        } => acts(run.reject(revision, station, fuse, kept)),
+        } => run.reject(revision, station, fuse, kept).map(Value::Acts),
         Call::Inquire {
             revision,
             station,
             fuse,
             kept,
-        } => acts(run.inquire(revision, station, fuse, kept)),
+        } => run.inquire(revision, station, fuse, kept).map(Value::Acts),
         Call::Deliver {
             place,
             copy,
             fuse,
             kept,
-        } => acts(run.deliver(place, copy, fuse, kept)),
-        Call::Lose { place } => nothing(run.lose(place)),
-        Call::Cut { station, kept } => nothing(run.cut(station, kept)),
-        Call::Restart { station } => nothing(run.restart(station)),
-        Call::Settle => Ok(Value::Deliveries(run.settle()?)),
-        Call::Awaited { revision } => Ok(Value::Awaited(run.awaited(revision)?)),
+        } => run.deliver(place, copy, fuse, kept).map(Value::Acts),
+        Call::Lose { place } => run.lose(place).map(|()| Value::Nothing),
+        Call::Cut { station, kept } => run.cut(station, kept).map(|()| Value::Nothing),
+        Call::Restart { station } => run.restart(station).map(|()| Value::Nothing),
+        Call::Settle => run.settle().map(Value::Deliveries),
+        Call::Awaited { revision } => run.awaited(revision).map(Value::Awaited),
     }
 }

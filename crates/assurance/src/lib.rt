@@ -40,23 +40,9 @@ fn perform_all<J: Journal, P: Presumption>(
     Ok(answers)
 }
 
-// Makes a run over a journal and performs a list of calls on it.
-fn perform_on_new<J: Journal + Drop, P: Presumption + Drop>(
-    heap: Global,
-    journal: J,
-    presumption: P,
-    calls: &[Call],
-) -> Result<Played<J, P>, AllocError>
-    ensures performed { IfOk result (λ x. AllPerformed (P.Presumption.answers presumption) calls.now (fresh (J.Journal.meaning journal)) (seen J.Journal.meaning x.run) x.answers.items) }
-    ensures presumes { IfOk result (λ x. x.run.presumption ≡ presumption) }
-{
-    let mut run = Run::new(heap, journal, presumption)?;
-    let answers = perform_all(heap, &mut run, calls)?;
-    Ok(Played { run, answers })
-}
-
 /// Makes a run over a journal and performs a list of calls on it. If the journal fits, the run that is left is sound;
 /// the last two clauses say what holds of every run.
+#[tactic(auto, using(crate::proofs::Holds::one_outcome, crate::proofs::Marked::all_as_marked))]
 pub fn play<J: Journal + Drop, P: Presumption + Drop>(
     heap: Global,
     journal: J,
@@ -69,5 +55,7 @@ pub fn play<J: Journal + Drop, P: Presumption + Drop>(
     ensures outcome { OneOutcome }
     ensures marked { AllAsMarked }
 {
-    perform_on_new(heap, journal, presumption, calls)
+    let mut run = Run::new(heap, journal, presumption)?;
+    let answers = perform_all(heap, &mut run, calls)?;
+    Ok(Played { run, answers })
 }
