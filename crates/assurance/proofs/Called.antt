@@ -1,10 +1,10 @@
 -- Each call does to the view what the ideal run's call does.
-use Rattle.std.proofs.Common.{◌≡◌, ℕ, zero, suc, ◌+◌, ◌<◌, ◌≤◌, Bool, true, false, cond, not, ◌&&◌, ◌||◌, ltb, List, [], ◌∷◌, ◌++◌, map, length, get_or, take, drop, Some, None, Option, sym, refl, ap, ◌∙◌, subst, inl, inr, arith}
+use Rattle.std.proofs.Common.{◌≡◌, ℕ, ◌+◌, ◌<◌, ◌≤◌, Bool, true, false, cond, not, ◌&&◌, ◌||◌, ltb, List, [], ◌∷◌, map, length, get_or, Some, None, Option, sym, refl, ap, ◌∙◌, subst, inl, inr, arith, take_all}
 use mathlib.Core.Path.{fun_ext}
 use lib.Count.{ones}
 use lib.ListN.{length-map}
 use Rattle.std.proofs.lemmas.Bool.{cond-true, cond-false, cases_Bool, cases_lt, true≢false, lt-ltb, ltb-true, ltb-false}
-use Rattle.std.proofs.lemmas.List.{get_or_past, get_or-map}
+use Rattle.std.proofs.lemmas.List.{get_or_past, get_or-map, map-append, take-map, drop-map, drop_all, append-nil}
 use Rattle.journal.specs.Meaning.{section}
 use Rattle.journal.specs.declared.records.Kind.{Kind}
 use Rattle.journal.specs.declared.records.Kind.TheVariants as kind
@@ -49,21 +49,10 @@ use Rattle.assurance.proofs.View.{has_as, is_as}
 
 -- a message removed
 without_as_list : (i : ℕ) (p : List Message) → map message_as (without i p) ≡ ideal.drop_at i (map message_as p)
-without_as_list zero [] = refl
-without_as_list zero (x ∷ p) = refl
-without_as_list (suc i) [] = ap (λ (k : ℕ). map message_as (drop {A = Message} k [])) (more i)
-  where
-    more : (i : ℕ) → suc i + 1 ≡ suc (i + 1)
-    more i = omega arith
-without_as_list (suc i) (x ∷ p) = ap (λ (q : List Message). map message_as (x ∷ (take i p ++ q))) (ap (λ (k : ℕ). drop k (x ∷ p)) (more i)) ∙ ap (λ (l : List ideal.Message). message_as x ∷ l) (without_as_list i p)
-  where
-    more : (i : ℕ) → suc i + 1 ≡ suc (i + 1)
-    more i = omega arith
+without_as_list i p = simp (map-append, take-map, drop-map)
 
 past : {X : Type 0} (i : ℕ) (l : List X) → length l ≤ i → ideal.drop_at i l ≡ l
-past i [] h = refl
-past zero (x ∷ l) h = absurd (omega arith)
-past (suc i) (x ∷ l) h = ap (λ m. x ∷ m) (past i l (omega arith))
+past i l h = rw (take_all i l h, drop_all (i + 1) l (omega arith)) (append-nil l)
 
 -- a message handed to its receiver
 module _ (π : Answers) (𝓗 : Lawful π) (n : ℕ) (two : 2 ≤ n) (eight : n ≤ 8) where

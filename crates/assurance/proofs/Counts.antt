@@ -1,13 +1,13 @@
 -- At most five records for each revision at each station.
-use Rattle.std.proofs.Common.{◌≡◌, ℕ, zero, suc, ◌+◌, ◌*◌, ◌<◌, ◌≤◌, Bool, true, false, not, ◌&&◌, ◌||◌, eqb, ltb, List, [], ◌∷◌, ◌++◌, length, take, sym, refl, ap, ◌∙◌, subst, inl, inr, arith}
+use Rattle.std.proofs.Common.{◌≡◌, ℕ, zero, suc, ◌+◌, ◌*◌, ◌<◌, ◌≤◌, Bool, true, false, not, ◌&&◌, ◌||◌, eqb, List, [], ◌∷◌, ◌++◌, length, take, sym, refl, ap, inl, inr, arith}
 use Rattle.std.specs.List.{AllByRecursion}
 use Rattle.std.proofs.lemmas.Bool.Decides.{nat_tests}
-use Rattle.std.proofs.lemmas.Bool.{or_parts, cond_both, cond-true, cond-false, cases_Bool, cases_eq, eq-eqb}
-use Rattle.assurance.proofs.Ideal.{updated, members, Kind, kI, kC, kA, kE, kp, kc, ka, code, Record, is, has, Outcome, commit, abort, CoordinatorEntry, none, Open, Collecting, Announcing, SubordinateEntry, idle, Active, Prepared, Station, MessageKind, PREPARE, YES, NO, COMMIT, ABORT, INQUIRY, Run, Presumption, Logging, not_at_all, unforced, forced, at_station, written_station, forced_station, cut_station, Act, write, force, send, installed, dropped, acts_done, Turn, stay, to_coordinator, to_subordinate, turn, step, line, letter, send_each, outcome_mail, outcome_kind, await, logged, end_acts, abort_acts, force_if, ack_if, doubtful, resumed, restarted_station, opened_station}
+use Rattle.std.proofs.lemmas.Bool.{or_parts, cond_both, cases_Bool, cases_eq, eq-eqb}
+use Rattle.assurance.proofs.Ideal.{updated, members, Kind, kI, kC, kA, kE, kp, kc, ka, code, Record, is, has, Outcome, commit, abort, CoordinatorEntry, none, Open, Collecting, Announcing, SubordinateEntry, idle, Active, Prepared, Station, MessageKind, PREPARE, YES, NO, COMMIT, ABORT, INQUIRY, Run, Presumption, Logging, not_at_all, unforced, forced, written_station, forced_station, cut_station, Act, write, force, send, installed, dropped, Turn, stay, to_coordinator, to_subordinate, line, letter, send_each, outcome_mail, outcome_kind, await, logged, end_acts, abort_acts, force_if, ack_if, doubtful, resumed, restarted_station, opened_station}
 use Rattle.assurance.proofs.Lasting.{No}
 use Rattle.assurance.proofs.Claims.{Laws}
-use Rattle.assurance.proofs.Tidy.{locals, turned_station, at_acts}
-use Rattle.assurance.proofs.Rules.{Rule, vote, again, refuse, joins, decide, drop, enforce, confirm, less, finish, answer, start, deny, press, asks, acts_of, turn_of, Why, Did, by_did, moved, same_locals}
+use Rattle.assurance.proofs.Rules.{Rule, vote, again, refuse, joins, decide, drop, enforce, confirm, less, finish, answer, start, deny, press, asks, acts_of, turn_of, Why, Did, by_did}
+use Rattle.assurance.proofs.Local.{locals, turned_station, same_locals, step_at}
 
 abbrev pub one : Bool → ℕ
 one true = 1
@@ -270,22 +270,13 @@ module _ (π : Presumption) (𝓛 : Laws π) where
   abbrev pub Few : Run → Type 0
   Few st = (s : ℕ) → FewS (st.station s)
 
-  pub few_in : (s : ℕ) (g : Station → Station) (st : Run) → Few st → FewS (g (st.station s)) → Few (at_station s g st)
-  few_in s g st h k t = cond_both (eqb s t) (g (st.station s)) (st.station t) FewS (λ _. k) (λ _. h t)
-
-  few_step : (u : Rule) (r s t f k : ℕ) (st : Run) → Why π (st.station s) r t u → Few st → Few (step s (acts_of π u r s t) (turn_of π u r) f k st)
-  few_step u r s t f k st w h =
-      let l = acts_of π u r s t in
+  pub few_did : (st : Run) (r s t f k : ℕ) (P : Rule → Type 0) (v : Run) → Did π st r s t f k P v → Few st → Few v
+  few_did st r s t f k P v d h =
+      by_did π Few st r s t f k P v d h
+      (λ u w _. (let l = acts_of π u r s t in
       let tn = turn_of π u r in
       let d = debit_rule u r s t (st.station s) w in
-      cond_both (ltb f (length l)) (at_station s (cut_station k) (acts_done s (take f l) st)) (turn s tn (acts_done s l st)) Few
-      (λ _ x. cond_both (eqb s x) (cut_station k ((acts_done s (take f l) st).station s)) ((acts_done s (take f l) st).station x) FewS
-      (λ _. subst (λ (y : Station). FewS (cut_station k y)) (sym (at_acts s s (take f l) st ∙ cond-true (eqb s s) _ _ (eq-eqb s s refl))) (few_part k f l tn (st.station s) (h s) d))
-      (λ e. subst FewS (sym (at_acts s x (take f l) st ∙ cond-false (eqb s x) _ _ e)) (h x)))
-      (λ _ x. subst FewS (sym (moved s x l tn st)) (cond_both (eqb s x) (turned_station tn (locals l (st.station s))) (st.station x) FewS (λ _. few_after l tn (st.station s) (h s) d) (λ _. h x)))
-
-  pub few_did : (st : Run) (r s t f k : ℕ) (P : Rule → Type 0) (v : Run) → Did π st r s t f k P v → Few st → Few v
-  few_did st r s t f k P v d h = by_did π Few st r s t f k P v d h (λ u w _. few_step u r s t f k st w h)
+      step_at (λ _. FewS) s l tn f k st (few_part k f l tn (st.station s) (h s) d) (few_after l tn (st.station s) (h s) d) h))
 
   pub few_restart : (y : Station) → y.loose ≡ [] → FewS y → FewS (restarted_station π y)
   few_restart y b h =

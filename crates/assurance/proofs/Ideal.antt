@@ -1,5 +1,5 @@
 -- The ideal run: stations by number, entries by revision, and writes that always succeed.
-use Rattle.std.proofs.Common.{ℕ, zero, suc, ◌+◌, ◌*◌, ◌/◌, ◌%◌, ◌^◌, Bool, true, false, cond, not, ◌&&◌, ◌||◌, eqb, ltb, List, [], ◌∷◌, ◌++◌, length, get_or, take, filter}
+use Rattle.std.proofs.Common.{ℕ, zero, suc, ◌+◌, ◌*◌, ◌/◌, ◌%◌, ◌^◌, Bool, true, false, cond, not, ◌&&◌, ◌||◌, eqb, ltb, List, [], ◌∷◌, ◌++◌, length, get_or, take, filter, drop}
 use Rattle.std.specs.List.{range_with_len}
 use lib.Bits.{bit_or, bit_xor}
 
@@ -361,9 +361,7 @@ upon_open c all st =
 
 -- a list without the element at a place
 abbrev pub drop_at : {X : Type 0} → ℕ → List X → List X
-drop_at n [] = []
-drop_at zero (x ∷ xs) = xs
-drop_at (suc n) (x ∷ xs) = x ∷ drop_at n xs
+drop_at n xs = take n xs ++ drop (n + 1) xs
 
 -- calls
 pub data Call : Type 0 where

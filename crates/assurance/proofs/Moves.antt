@@ -35,12 +35,12 @@ use Rattle.assurance.specs.Writes.{Accepted}
 use Rattle.assurance.proofs.Claims.{Laws}
 use Rattle.assurance.proofs.Sets.{mem_zero}
 use Rattle.assurance.proofs.SafeSteps.{turn_first}
-use Rattle.assurance.proofs.Tidy.{locals}
 use Rattle.assurance.proofs.Room.{records, room_rule}
 use Rattle.assurance.proofs.Every.{Full, room_all}
 use Rattle.assurance.proofs.Rules.{Rule, acts_of, turn_of, Why}
 use Rattle.assurance.proofs.View.{outcome_as, logging_as, mail_as, co_as, sub_as, act_as, turn_as, view, Shape}
 use Rattle.assurance.proofs.Performed.{Logged, step_view, single_is}
+use Rattle.assurance.proofs.Local.{locals}
 
 abbrev pub outcome_from : ideal.Outcome → Outcome
 outcome_from ideal.commit = outcome.Commit

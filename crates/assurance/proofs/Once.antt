@@ -6,17 +6,17 @@ use Rattle.std.proofs.lemmas.Bool.Decides.{nat_tests}
 use Rattle.std.proofs.lemmas.Bool.{cond_both, cond-true, cond-false, cases_Bool, true≢false, eqb-true, eq-eqb, and_parts, not-true, ltb-true}
 use Rattle.assurance.proofs.Ideal.{updated, in_set, with_station, members, kI, commit, CoordinatorEntry, none, Open, Collecting, Announcing, SubordinateEntry, idle, Active, Prepared, Station, MessageKind, PREPARE, YES, NO, COMMIT, ABORT, ACK, INQUIRY, Message, Plan, Run, Presumption, at_station, set_coordinator, set_subordinate, with_message, marked_installed, marked_dropped, with_post, Act, write, force, send, installed, dropped, act_done, acts_done, to_coordinator, to_subordinate, turn, step, line, letter, send_each, await, close_acts, commit_acts, prepare_acts, upon_prepare, upon_yes, upon_close, upon_inquire, handed, upon_open, open_revision, close, load, all_powered, hand_first, drain, emptied, nudge, urged, asked, inquire_all, revise, revise_all, settled, fits, call, calls}
 use Rattle.assurance.proofs.Lasting.{world, CoLegal}
-use Rattle.assurance.proofs.Tidy.{locals}
 use Rattle.assurance.proofs.Sets.{mem_add, mem_zero, add_self, add_keeps, mem_below, mem_ext}
 use Rattle.assurance.proofs.Claims.{Laws, new, up}
 use Rattle.assurance.proofs.SafeActs.{SafeSt, upd_same}
-use Rattle.assurance.proofs.Invariant.{Inv, inv_call, inv_first}
-use Rattle.assurance.proofs.Rules.{Rule, vote, again, refuse, joins, decide, drop, enforce, confirm, less, finish, answer, start, deny, press, asks, acts_of, turn_of, For, Did, by_did, did_handed, whole, few_members, moved, same_locals}
+use Rattle.assurance.proofs.Invariant.{Inv, inv_first}
+use Rattle.assurance.proofs.Rules.{Rule, vote, again, refuse, joins, decide, drop, enforce, confirm, less, finish, answer, start, deny, press, asks, acts_of, turn_of, For, Did, by_did, did_handed, whole, few_members}
 use Rattle.assurance.proofs.Loads.{empty, load_handed}
 use Rattle.assurance.proofs.Whole.{On, Aside, aside_refl, aside_trans, Sure, Rested, Calm, on_moved, aside_moved, co_moved, sure_moved, co_now, aside_did, on_first, first_on}
 use Rattle.assurance.proofs.UnderWay.{In, in_left, in_last, elem_members, letters, letters_sends, room_post, post_acts, post_turn, CoPend, MildOf, Mild, Tri, mid_first, rest_of, mild_sends, in_sends, told}
 use Rattle.assurance.proofs.Settled.{sure_far, tri_of, few_sends}
 use Rattle.std.proofs.lemmas.List.{nil_from_length}
+use Rattle.assurance.proofs.Local.{locals, moved, same_locals}
 
 -- how many members
 abbrev pub card : ℕ → ℕ → ℕ
@@ -428,7 +428,7 @@ module _ (π : Presumption) (𝓛 : Laws π) (st : Run) (bare : st.post ≡ []) 
       subst (λ (x : Run). (inquire_all π r (range_with_len 0 π.size) x (emptied π (urged π r st) k).made).made ≡ k) (sym b.0) (subst (λ (y : ℕ). (inquire_all π r (range_with_len 0 π.size) st y).made ≡ k) (sym b.1) (idle_asks r h (range_with_len 0 π.size) k))
 
 -- a fresh run opens and closes one revision
-module _ (π : Presumption) (𝓛 : Laws π) (c all : ℕ) (ok : fits π.size c all ≡ true) (first : Inv π 𝓛 new) where
+module _ (π : Presumption) (𝓛 : Laws π) (c all : ℕ) (ok : fits π.size c all ≡ true) (inv : Inv π 𝓛 (calls π (open_revision c all ∷ (close 0 255 0 ∷ [])) new)) where
   abbrev st1 : Run
   st1 = upon_open c all new
 
@@ -488,7 +488,7 @@ module _ (π : Presumption) (𝓛 : Laws π) (c all : ℕ) (ok : fits π.size c 
       let z = card_zero π.size in
       let side = aside_moved c (close_acts π 0 c all) (to_coordinator 0 (Collecting all 0)) st1 0 refl in
       record {
-        inv = subst (Inv π 𝓛) closed (inv_call π 𝓛 (close 0 255 0) (call π (open_revision c all) new) (inv_call π 𝓛 (open_revision c all) new first));
+        inv = subst (Inv π 𝓛) closed inv;
         on = on_moved c (close_acts π 0 c all) (to_coordinator 0 (Collecting all 0)) st1 (λ s. refl);
         own = ap (λ (h : ℕ → Plan). (h 0).coordinator) side.plan;
         side = aside_refl 0 w;

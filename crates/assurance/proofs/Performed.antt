@@ -32,9 +32,9 @@ use Rattle.actor.specs.Store.{burns}
 use Rattle.std.proofs.ByRecursion.{All-take}
 use lib.ListN.{get_or-replicate, length-replicate}
 use Rattle.assurance.specs.Writes.{Accepts, Accepted}
-use Rattle.assurance.proofs.Tidy.{local, locals, at_act}
 use Rattle.assurance.proofs.Room.{records, grows, grows_take}
 use Rattle.assurance.proofs.View.{record_as, message_as, co_as, sub_as, act_as, turn_as, station_as, net_of, parts, view, Shape, fun_at, record_here, record_there, station_here, station_there}
+use Rattle.assurance.proofs.Local.{local, locals, at_act}
 
 -- a write that there is room for
 answers_0 : (j : List Section) (s : ℕ) → s < length j → held (section j s) < (section j s).capacity → write_answer j s ≡ 0

@@ -5,10 +5,10 @@ use Rattle.std.proofs.ByRecursion.{All-weaker, All-push, All-append}
 use Rattle.std.proofs.lemmas.Bool.{cond_both}
 use Rattle.assurance.proofs.Ideal.{members, kI, kA, kE, Record, commit, abort, Station, MessageKind, PREPARE, COMMIT, ABORT, Run, Presumption, Logging, not_at_all, unforced, forced, written_station, forced_station, Act, write, force, send, installed, dropped, Turn, stay, to_coordinator, to_subordinate, line, send_each, outcome_mail, logged, end_acts, force_if, ack_if}
 use Rattle.assurance.proofs.Claims.{Laws}
-use Rattle.assurance.proofs.Tidy.{locals, turned_station}
 use Rattle.assurance.proofs.Rules.{Rule, vote, again, refuse, joins, decide, drop, enforce, confirm, less, finish, answer, start, deny, press, asks, acts_of, turn_of, Why}
 use Rattle.assurance.proofs.Counts.{few_after, debit_rule, room}
 use Rattle.assurance.proofs.Every.{Full}
+use Rattle.assurance.proofs.Local.{locals, turned_station}
 
 -- how many records a station has
 abbrev pub records : Station → ℕ

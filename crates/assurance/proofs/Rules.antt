@@ -1,14 +1,13 @@
 -- Every step of a station is one of fifteen rules.
-use Rattle.std.proofs.Common.{◌≡◌, ℕ, zero, suc, ◌+◌, ◌<◌, ◌≤◌, Bool, true, false, cond, not, ◌&&◌, eqb, ltb, ◌⊎◌, List, [], ◌∷◌, ◌++◌, length, sym, refl, ap, subst, inl, inr, arith, length-append}
+use Rattle.std.proofs.Common.{◌≡◌, ℕ, zero, suc, ◌+◌, ◌<◌, ◌≤◌, Bool, true, false, not, ◌&&◌, eqb, ltb, ◌⊎◌, List, [], ◌∷◌, ◌++◌, length, sym, refl, ap, subst, inl, inr, arith, length-append}
 use Rattle.std.specs.List.{AllByRecursion, range_with_len}
 use Rattle.std.proofs.lemmas.Bool.Decides.{nat_tests}
 use Rattle.std.proofs.lemmas.Bool.{cond_both, cond-false, le-ltb}
-use Rattle.assurance.proofs.Ideal.{in_set, with_station, without_station, members, kI, kA, kE, Record, Outcome, commit, abort, CoordinatorEntry, none, Open, Collecting, Announcing, SubordinateEntry, idle, Active, Prepared, Station, MessageKind, PREPARE, YES, NO, COMMIT, ABORT, ACK, INQUIRY, Run, Presumption, Logging, not_at_all, unforced, forced, at_station, written_station, forced_station, set_coordinator, Act, write, force, send, installed, dropped, acts_done, Turn, stay, to_coordinator, to_subordinate, turn, step, line, letter, send_each, outcome_mail, await, logged, close_acts, commit_acts, end_acts, abort_acts, force_if, ack_if, enforce_acts, reject_acts, prepare_acts, upon_prepare, upon_yes, decide_abort, upon_no, upon_outcome, upon_ack, upon_inquiry, upon_close, upon_give_up, upon_reject, upon_chase, upon_inquire, handed, nudge}
+use Rattle.assurance.proofs.Ideal.{in_set, with_station, without_station, members, kI, kA, kE, Record, Outcome, commit, abort, CoordinatorEntry, none, Open, Collecting, Announcing, SubordinateEntry, idle, Active, Prepared, Station, MessageKind, PREPARE, YES, NO, COMMIT, ABORT, ACK, INQUIRY, Run, Presumption, Logging, not_at_all, unforced, forced, at_station, set_coordinator, Act, write, force, send, acts_done, Turn, stay, to_coordinator, to_subordinate, turn, step, line, letter, send_each, outcome_mail, await, logged, close_acts, commit_acts, end_acts, abort_acts, force_if, ack_if, enforce_acts, reject_acts, prepare_acts, upon_prepare, upon_yes, decide_abort, upon_no, upon_outcome, upon_ack, upon_inquiry, upon_close, upon_give_up, upon_reject, upon_chase, upon_inquire, handed, nudge}
 use Rattle.std.proofs.ByRecursion.{all_kept_by}
 use Rattle.std.proofs.lemmas.List.Sums.{length-filter, count_by-le-length}
 use Rattle.std.proofs.lemmas.List.FromFn.{length-range_with_len}
 use Rattle.assurance.proofs.Claims.{Laws}
-use Rattle.assurance.proofs.Tidy.{locals, turned_station, at_acts}
 
 -- every step of a station is one of these rules
 pub data Rule : Type 0 where
@@ -257,17 +256,3 @@ module _ (π : Presumption) (𝓛 : Laws π) where
   -- no fuse burns down in a settle
   pub whole : (u : Rule) (r s t : ℕ) (st : Run) → step s (acts_of π u r s t) (turn_of π u r) 255 0 st ≡ turn s (turn_of π u r) (acts_done s (acts_of π u r s t) st)
   whole u r s t st = cond-false (ltb 255 (length (acts_of π u r s t))) _ _ (le-ltb 255 (length (acts_of π u r s t)) (short u r s t))
-
--- what a whole step leaves at each station
-pub moved : (s t : ℕ) (l : List Act) (tn : Turn) (st : Run) → (turn s tn (acts_done s l st)).station t ≡ cond (eqb s t) (turned_station tn (locals l (st.station s))) (st.station t)
-moved s t l stay st = at_acts s t l st
-moved s t l (to_coordinator r e) st = grind (arith, nat_tests, at_acts s t l st, at_acts s s l st)
-moved s t l (to_subordinate r e) st = grind (arith, nat_tests, at_acts s t l st, at_acts s s l st)
-
-pub same_locals : (l : List Act) (y : Station) → ((locals l y).power ≡ y.power) × ((locals l y).coordinators ≡ y.coordinators) × ((locals l y).subordinates ≡ y.subordinates)
-same_locals [] y = (refl, refl, refl)
-same_locals (write x ∷ l) y = same_locals l (written_station x y)
-same_locals (force ∷ l) y = same_locals l (forced_station y)
-same_locals (send m ∷ l) y = same_locals l y
-same_locals (installed r ∷ l) y = same_locals l y
-same_locals (dropped r ∷ l) y = same_locals l y

@@ -7,7 +7,7 @@ use Rattle.assurance.proofs.SafeActs.{SafeSt, upd_same, here_in, keeps_co, grow_
 use Rattle.assurance.proofs.SafeSteps.{Oks, safe_acts, safe_step, safe_step_mid}
 use Rattle.assurance.proofs.Sets.{mem_add, mem_zero}
 use Rattle.assurance.proofs.Claims.{Laws}
-use Rattle.assurance.proofs.SafeRules.{has_legal, ready_oks, ready_sends, now_forced, forced_got}
+use Rattle.assurance.proofs.SafeRules.{has_legal, ready_oks, ready_sends, now_forced, forced_got, past_await, shut_await}
 
 module _ (π : Presumption) (𝓛 : Laws π) where
   pub oks_send : (k : MessageKind) (r s : ℕ) (ts : List ℕ) (st : Run) → ((t : ℕ) → Legal π (world st) (letter k r s t)) → Oks π s (send_each k r s ts) st
@@ -23,14 +23,8 @@ module _ (π : Presumption) (𝓛 : Laws π) where
   co_await : (o : Outcome) (a s r : ℕ) (w : World) → ((a ≡ 0 → ⊥) → CoLegal π w s r (Announcing o a)) → CoLegal π w s r (await o a)
   co_await o a s r w h = cond_both (eqb a 0) none (Announcing o a) (CoLegal π w s r) (λ _. tt) (λ z. h (λ e. true≢false (sym (eq-eqb _ _ e) ∙ z)))
 
-  shut_await : (o : Outcome) (a : ℕ) → Shut (await o a)
-  shut_await o a = cond_both (eqb a 0) none (Announcing o a) Shut (λ _. tt) (λ _. tt)
-
   asked_all : (o : Outcome) (all r : ℕ) (w : World) → all ≡ (w.plan r).names → (t : ℕ) → in_set (π.ackers o all) t ≡ true → Named w r t × (π.acks o t ≡ true)
   asked_all o all r w e t m = let b = 𝓛.backer o all t m in (rw (← e) b.0, b.1)
-
-  past_await : (o : Outcome) (a : ℕ) → Past (await o a)
-  past_await o a = cond_both (eqb a 0) none (Announcing o a) Past (λ _. tt) (λ _. tt)
 
   pub safe_yes : (r s t : ℕ) (e : CoordinatorEntry) (f k : ℕ) (st : Run) → SafeSt π st → Got kp r (st.station t) → (st.station s).coordinators r ≡ e → SafeSt π (upon_yes π r s t e f k st)
   safe_yes r s t none f k st h v e = h

@@ -19,6 +19,13 @@ IsNone (Open a) = ⊥
 IsNone (Collecting a y) = ⊥
 IsNone (Announcing o w) = ⊥
 
+-- who awaits somebody, or nobody, has decided
+pub past_await : (o : Outcome) (a : ℕ) → Past (await o a)
+past_await o a = cond_both (eqb a 0) none (Announcing o a) Past (λ _. tt) (λ _. tt)
+
+pub shut_await : (o : Outcome) (a : ℕ) → Shut (await o a)
+shut_await o a = cond_both (eqb a 0) none (Announcing o a) Shut (λ _. tt) (λ _. tt)
+
 -- what holds of a station's own journal and entries between steps
 pub record TidyS (π : Presumption) (P : ℕ → Plan) (s : ℕ) (x : Station) : Type 0 where
   pub fresh : (r : ℕ) → (Inactive (x.subordinates r) → ⊥) → No kp r x
@@ -206,27 +213,19 @@ module _ (π : Presumption) (𝓛 : Laws π) where
 
   -- decide abort for d: whoever acknowledges and is not in d is settled
   module _ (r s all d : ℕ) (f k : ℕ) (st : Run) (h : SafeSt π st) (known : r < st.count) (own : s ≡ (st.plan r).coordinator) (whole : all ≡ (st.plan r).names) (no : No kC r (st.station s)) (rest : (t : ℕ) → Named (world st) r t → π.acks abort t ≡ true → (in_set d t ≡ true) ⊎ Settled r (st.station t)) (part : (t : ℕ) → in_set d t ≡ true → in_set all t ≡ true) where
-    aw : CoordinatorEntry
+    abbrev aw : CoordinatorEntry
     aw = await abort (π.ackers abort d)
-
-    past_aw : Past aw
-    unfolding aw
-    past_aw = cond_both (eqb (π.ackers abort d) 0) none (Announcing abort (π.ackers abort d)) Past (λ _. tt) (λ _. tt)
-
-    shut_aw : Shut aw
-    unfolding aw
-    shut_aw = cond_both (eqb (π.ackers abort d) 0) none (Announcing abort (π.ackers abort d)) Shut (λ _. tt) (λ _. tt)
 
     st0 : Run
     st0 = at_station s (set_coordinator r aw) st
 
     g0 : Grow (world st) (world st0)
     unfolding st0
-    g0 = grow_in π st s (set_coordinator r aw) (keeps_co st.count r aw (st.station s) (λ _. past_aw) shut_aw)
+    g0 = grow_in π st s (set_coordinator r aw) (keeps_co st.count r aw (st.station s) (λ _. past_await abort (π.ackers abort d)) (shut_await abort (π.ackers abort d)))
 
     doomed : Doom r (head (world st0) r)
     unfolding st0
-    doomed = subst (λ (u : ℕ). Doom r (st0.station u)) own (rw (here_in s (set_coordinator r aw) st) (no, rw (upd_same (st.station s).coordinators r aw) past_aw))
+    doomed = subst (λ (u : ℕ). Doom r (st0.station u)) own (rw (here_in s (set_coordinator r aw) st) (no, rw (upd_same (st.station s).coordinators r aw) (past_await abort (π.ackers abort d))))
 
     rest0 : (t : ℕ) → Named (world st0) r t → π.acks abort t ≡ true → (in_set d t ≡ true) ⊎ Settled r (st0.station t)
     unfolding st0
@@ -236,8 +235,8 @@ module _ (π : Presumption) (𝓛 : Laws π) where
     heard0 t m a = elim (rest0 t m a) [ inl i ↦ inl (𝓛.acker abort d t i a) | inr i ↦ inr i ]
 
     safe0 : SafeSt π st0
-    unfolding st0 aw
-    safe0 = safe_co π st s h r aw (λ _. past_aw) shut_aw (cond_both (eqb (π.ackers abort d) 0) none (Announcing abort (π.ackers abort d)) (CoLegal π (world st0) s r) (λ _. tt) (λ z. (known, own, doomed, heard0, (λ e. true≢false (sym (eq-eqb _ _ e) ∙ z), λ u m. (let b = 𝓛.backer abort d u m in (rw (← whole) (part u b.0), b.1))))))
+    unfolding st0
+    safe0 = safe_co π st s h r aw (λ _. past_await abort (π.ackers abort d)) (shut_await abort (π.ackers abort d)) (cond_both (eqb (π.ackers abort d) 0) none (Announcing abort (π.ackers abort d)) (CoLegal π (world st0) s r) (λ _. tt) (λ z. (known, own, doomed, heard0, (λ e. true≢false (sym (eq-eqb _ _ e) ∙ z), λ u m. (let b = 𝓛.backer abort d u m in (rw (← whole) (part u b.0), b.1))))))
 
     a_ready : (l : Logging) → AllByRecursion (Ready π (world st0) s) (logged l (line kA r all))
     unfolding st0
@@ -254,7 +253,7 @@ module _ (π : Presumption) (𝓛 : Laws π) where
         (λ _. tt)
 
     pub safe_decide : SafeSt π (decide_abort π r s all d f k st)
-    unfolding st0 aw
+    unfolding st0
     safe_decide =
         safe_step_first π s (abort_acts π r s all d) (to_coordinator r aw) f k st safe0
         (ready_oks π s (abort_acts π r s all d) st0 (All-append _ (logged (π.logs all) (line kA r all)) _ (a_ready (π.logs all)) (All-append _ (send_each ABORT r s (members π.size d)) _ (ready_sends π (world st0) ABORT r s (λ t. (known, inl (inl doomed))) (members π.size d)) e_ready)))
@@ -268,9 +267,11 @@ is_own kp r a = eq-eqb r r refl
 is_own kc r a = eq-eqb r r refl
 is_own ka r a = eq-eqb r r refl
 
+pub written_got : (k : Kind) (r a : ℕ) (l : List Record) → has k r (l ++ (line k r a ∷ [])) ≡ true
+written_got k r a l = has_append k r l (line k r a ∷ []) ∙ or_right _ _ (or_left _ _ (is_own k r a))
+
 pub forced_got : (k : Kind) (r a : ℕ) (y : Station) → Got k r (forced_station (written_station (line k r a) y))
-forced_got k r a y =
-    has_append k r y.stable (y.loose ++ (line k r a ∷ [])) ∙ or_right _ _ (has_append k r y.loose (line k r a ∷ []) ∙ or_right _ _ (or_left _ _ (is_own k r a)))
+forced_got k r a y = has_append k r y.stable (y.loose ++ (line k r a ∷ [])) ∙ or_right _ _ (written_got k r a y.loose)
 
 pub now_forced : (s : ℕ) (x : Record) (st : Run) → (at_station s forced_station (at_station s (written_station x) st)).station s ≡ forced_station (written_station x (st.station s))
 now_forced s x st = ap (λ (u : Run). u.station s) (in_in s forced_station (written_station x) st) ∙ here_in s (λ y. forced_station (written_station x y)) st

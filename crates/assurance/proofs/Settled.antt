@@ -7,7 +7,7 @@ use Rattle.assurance.proofs.Lasting.{Got, Shut, world, head, Named, Comm, CoLega
 use Rattle.assurance.proofs.Claims.{Laws}
 use Rattle.assurance.proofs.SafeActs.{SafeSt}
 use Rattle.assurance.proofs.SafeRules.{IsNone, has_legal, there_legal, excl}
-use Rattle.assurance.proofs.Invariant.{Inv, inv_first, inv_emptied, inv_asked, inv_urged}
+use Rattle.assurance.proofs.Invariant.{Inv, inv_first, inv_asked, inv_urged}
 use Rattle.assurance.proofs.Rules.{drop, press, For, did_handed, did_nudge, did_inquire, whole, few_members}
 use Rattle.assurance.proofs.Loads.{empty, keeps_emptied}
 use Rattle.assurance.proofs.Whole.{On, Aside, aside_trans, Sure, Rested, co_moved, co_now, on_did, aside_did, on_first, first_on}
@@ -278,7 +278,7 @@ module _ (π : Presumption) (𝓛 : Laws π) where
   settles st h on sets =
       let d = emptied π st 0 in
       let s = keeps_emptied π 𝓛 (λ (v : Run). (v.plan ≡ st.plan) × (v.count ≡ st.count) × On v) (same_first st) st 0 (refl, refl, on) in
-      let b = revises (range_with_len 0 st.count) d.left d.made (record { inv = inv_emptied π 𝓛 st 0 h; on = s.2; bare = (empty π 𝓛 st 0).0; sets = λ r t i. sets r t (subst (λ (g : ℕ → Plan). in_set (g r).names t ≡ true) s.0 i) }) in
+      let b = revises (range_with_len 0 st.count) d.left d.made (record { inv = keeps_emptied π 𝓛 (Inv π 𝓛) (inv_first π 𝓛) st 0 h; on = s.2; bare = (empty π 𝓛 st 0).0; sets = λ r t i. sets r t (subst (λ (g : ℕ → Plan). in_set (g r).names t ≡ true) s.0 i) }) in
       (b.0, (λ r l. b.1 r (inr (elem_counting 0 st.count r (omega arith) (omega arith)))), b.2 ∙ s.1)
 
   -- no entry of any station awaits anything

@@ -1,11 +1,11 @@
 -- What a whole step leaves at the other stations and for the other revisions.
-use Rattle.std.proofs.Common.{◌≡◌, ℕ, true, eqb, List, [], ◌∷◌, sym, refl, ap, ◌∙◌, subst}
+use Rattle.std.proofs.Common.{◌≡◌, ℕ, true, eqb, List, sym, refl, ap, ◌∙◌, subst}
 use Rattle.std.proofs.lemmas.Bool.{cond_both, cond-true, cond-false, true≢false, eqb-true, eq-eqb, ne_eqb}
-use Rattle.assurance.proofs.Ideal.{CoordinatorEntry, none, Open, Collecting, Announcing, SubordinateEntry, idle, Active, Prepared, Station, Message, Run, Presumption, set_coordinator, set_subordinate, with_message, marked_installed, marked_dropped, with_post, Act, write, force, send, installed, dropped, act_done, acts_done, Turn, stay, to_coordinator, to_subordinate, turn, handed, hand_first}
+use Rattle.assurance.proofs.Ideal.{CoordinatorEntry, none, Open, Collecting, Announcing, SubordinateEntry, idle, Active, Prepared, Station, Message, Run, Presumption, set_coordinator, set_subordinate, with_post, Act, acts_done, Turn, stay, to_coordinator, to_subordinate, turn, handed, hand_first}
 use Rattle.assurance.proofs.Claims.{Laws}
 use Rattle.assurance.proofs.SafeActs.{upd_same}
-use Rattle.assurance.proofs.Tidy.{locals, turned_station}
-use Rattle.assurance.proofs.Rules.{Rule, vote, again, refuse, joins, decide, drop, enforce, confirm, less, finish, answer, start, deny, press, asks, acts_of, turn_of, For, Did, by_did, did_handed, whole, moved, same_locals}
+use Rattle.assurance.proofs.Rules.{Rule, vote, again, refuse, joins, decide, drop, enforce, confirm, less, finish, answer, start, deny, press, asks, acts_of, turn_of, For, Did, by_did, did_handed, whole}
+use Rattle.assurance.proofs.Local.{locals, turned_station, turned_power, moved, same_locals, plan_acts, plan_turn}
 
 -- all have power
 abbrev pub On : Run → Type 0
@@ -50,24 +50,6 @@ abbrev pub NoCo : Turn → Type 0
 NoCo stay = Unit {0}
 NoCo (to_coordinator q e) = ⊥
 NoCo (to_subordinate q e) = Unit {0}
-
-plan_acts : (s : ℕ) (l : List Act) (st : Run) → ((acts_done s l st).plan ≡ st.plan) × ((acts_done s l st).count ≡ st.count)
-plan_acts s [] st = (refl, refl)
-plan_acts s (write x ∷ l) st = plan_acts s l (act_done s (write x) st)
-plan_acts s (force ∷ l) st = plan_acts s l (act_done s force st)
-plan_acts s (send m ∷ l) st = plan_acts s l (with_message m st)
-plan_acts s (installed r ∷ l) st = plan_acts s l (marked_installed r s st)
-plan_acts s (dropped r ∷ l) st = plan_acts s l (marked_dropped r s st)
-
-plan_turn : (s : ℕ) (tn : Turn) (st : Run) → ((turn s tn st).plan ≡ st.plan) × ((turn s tn st).count ≡ st.count)
-plan_turn s stay st = (refl, refl)
-plan_turn s (to_coordinator r e) st = (refl, refl)
-plan_turn s (to_subordinate r e) st = (refl, refl)
-
-turned_power : (tn : Turn) (y : Station) → (turned_station tn y).power ≡ y.power
-turned_power stay y = refl
-turned_power (to_coordinator r e) y = refl
-turned_power (to_subordinate r e) y = refl
 
 turned_co : (r q : ℕ) (tn : Turn) (y : Station) → About r tn → (q ≡ r → ⊥) → (turned_station tn y).coordinators q ≡ y.coordinators q
 turned_co r q stay y a n = refl
