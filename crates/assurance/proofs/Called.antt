@@ -117,8 +117,7 @@ module _ (π : Answers) (𝓗 : Lawful π) (n : ℕ) (two : 2 ≤ n) (eight : n 
     where
       go : (e : SubordinateEntry) → subordinate_at st.stations s r ≡ e → e ≡ subordinate.None
       go subordinate.None q = refl
-      go (subordinate.Active c) q = absurd (omega (arith, (sub_legal π 𝓗 n two eight st g s r (subordinate.Active c) q).0))
-      go (subordinate.Prepared c) q = absurd (omega (arith, (sub_legal π 𝓗 n two eight st g s r (subordinate.Prepared c) q).0))
+      go e q = absurd (omega (arith, (sub_legal π 𝓗 n two eight st g s r e q).0))
 
   -- a call that the coordinator carries out
   by_coordinator : (r f k : ℕ) (m : Option (Move CoordinatorEntry)) (w : ideal.Run)
@@ -151,10 +150,8 @@ module _ (π : Answers) (𝓗 : Lawful π) (n : ℕ) (two : 2 ≤ n) (eight : n 
       (λ l. ap (λ (e : CoordinatorEntry). ideal.upon_close Q r (coordinator_of r st) (co_as e) f k V) (no_co (coordinator_of r st) r l))
     where
       go : r < length st.store.log → (e : CoordinatorEntry) → coordinator_entry r st ≡ e → To (if_allowed π (coordinator_of r st) r (option_map (turning turn.Coordinator) (close_move e)) f k st).state (ideal.upon_close Q r (coordinator_of r st) (co_as e) f k V)
-      go l coordinator.None q = unchanged V refl
       go l (coordinator.Open x) q = (closes π 𝓗 n two eight st g r (coordinator_of r st) f k (g.full.near.plans r) l x q).0
-      go l (coordinator.Collecting x y) q = unchanged V refl
-      go l (coordinator.Announcing o w) q = unchanged V refl
+      go l e q = unchanged V refl
 
   pub give_up_view : (r f k : ℕ) → To (give_up_call π r f k st).state (ideal.call Q (ideal.give_up r f k) V)
   give_up_view r f k =
@@ -163,10 +160,9 @@ module _ (π : Answers) (𝓗 : Lawful π) (n : ℕ) (two : 2 ≤ n) (eight : n 
       (λ l. ap (λ (e : CoordinatorEntry). ideal.upon_give_up Q r (coordinator_of r st) (co_as e) f k V) (no_co (coordinator_of r st) r l))
     where
       go : r < length st.store.log → (e : CoordinatorEntry) → coordinator_entry r st ≡ e → To (if_allowed π (coordinator_of r st) r (option_map (turning turn.Coordinator) (give_up_move π e)) f k st).state (ideal.upon_give_up Q r (coordinator_of r st) (co_as e) f k V)
-      go l coordinator.None q = unchanged V refl
       go l (coordinator.Open x) q = (gives_up_open π 𝓗 n two eight st g r (coordinator_of r st) f k (g.full.near.plans r) l x q).0
       go l (coordinator.Collecting x y) q = (gives_up π 𝓗 n two eight st g r (coordinator_of r st) f k (g.full.near.plans r) l x y q).0
-      go l (coordinator.Announcing o w) q = unchanged V refl
+      go l e q = unchanged V refl
 
   pub chase_view : (r f k : ℕ) → To (chase_call π r f k st).state (ideal.call Q (ideal.chase r f k) V)
   chase_view r f k =
@@ -175,10 +171,8 @@ module _ (π : Answers) (𝓗 : Lawful π) (n : ℕ) (two : 2 ≤ n) (eight : n 
       (λ l. ap (λ (e : CoordinatorEntry). ideal.upon_chase Q r (coordinator_of r st) (co_as e) f k V) (no_co (coordinator_of r st) r l))
     where
       go : r < length st.store.log → (e : CoordinatorEntry) → coordinator_entry r st ≡ e → To (if_allowed π (coordinator_of r st) r (option_map (turning turn.Coordinator) (chase_move e)) f k st).state (ideal.upon_chase Q r (coordinator_of r st) (co_as e) f k V)
-      go l coordinator.None q = unchanged V refl
-      go l (coordinator.Open x) q = unchanged V refl
-      go l (coordinator.Collecting x y) q = unchanged V refl
       go l (coordinator.Announcing o w) q = (chases π 𝓗 n two eight st g r (coordinator_of r st) f k (g.full.near.plans r) l o w q).0
+      go l e q = unchanged V refl
 
   -- a call that a subordinate carries out
   by_subordinate : (r s f k : ℕ) (m : Option (Move SubordinateEntry)) (w : ideal.Run)
@@ -205,9 +199,8 @@ module _ (π : Answers) (𝓗 : Lawful π) (n : ℕ) (two : 2 ≤ n) (eight : n 
       (λ l. ap (λ (e : SubordinateEntry). ideal.upon_reject Q r s (sub_as e) f k V) (no_sub s r l))
     where
       go : s < n → r < length st.store.log → (e : SubordinateEntry) → subordinate_at st.stations s r ≡ e → To (if_allowed π s r (option_map (turning turn.Subordinate) (reject_move e)) f k st).state (ideal.upon_reject Q r s (sub_as e) f k V)
-      go h l subordinate.None q = unchanged V refl
       go h l (subordinate.Active c) q = (rejects π 𝓗 n two eight st g r s f k h l c q).0
-      go h l (subordinate.Prepared c) q = unchanged V refl
+      go h l e q = unchanged V refl
 
   pub inquire_view : (r s f k : ℕ) → To (inquire_call π r s f k st).state (ideal.call Q (ideal.inquire r s f k) V)
   inquire_view r s f k =
@@ -216,9 +209,8 @@ module _ (π : Answers) (𝓗 : Lawful π) (n : ℕ) (two : 2 ≤ n) (eight : n 
       (λ l. ap (λ (e : SubordinateEntry). ideal.upon_inquire Q r s (sub_as e) f k V) (no_sub s r l))
     where
       go : s < n → r < length st.store.log → (e : SubordinateEntry) → subordinate_at st.stations s r ≡ e → To (if_allowed π s r (option_map (turning turn.Subordinate) (inquire_move e)) f k st).state (ideal.upon_inquire Q r s (sub_as e) f k V)
-      go h l subordinate.None q = unchanged V refl
-      go h l (subordinate.Active c) q = unchanged V refl
       go h l (subordinate.Prepared c) q = (inquires π 𝓗 n two eight st g r s f k h l c q).0
+      go h l e q = unchanged V refl
 
   -- deliveries and losses
   left_view : (i : ℕ) (copy : Bool) → view n (cond copy st (removed i st)) ≡ ideal.with_post (cond copy V.post (ideal.drop_at i V.post)) V
@@ -316,10 +308,7 @@ module _ (π : Answers) (𝓗 : Lawful π) (n : ℕ) (two : 2 ≤ n) (eight : n 
         named kind.Opening c l = l.1
         named kind.Commit c l = l.1
         named kind.Abort c l = l.1
-        named kind.End c l = absurd (omega arith)
-        named kind.Prepared c l = absurd (omega arith)
-        named kind.Committed c l = absurd (omega arith)
-        named kind.Aborted c l = absurd (omega arith)
+        named k c l = absurd (omega arith)
 
     told : (k : Kind) (o : Outcome) (r : ℕ) (x : Record) → ideal.code (kind_as k) < 3 → Finds k r L (Some x) → co_as (announcing π o (of_bits x.argument)) ≡ Told (kind_as k) (outcome_as o) r
     told k o r x c f = await_all π 𝓗 n two eight st g o (of_bits x.argument) (set_of k r x.argument c f.0 f.1) ∙ ap (λ (a : ℕ). ideal.await (outcome_as o) (Q.ackers (outcome_as o) a)) (sym f.1)

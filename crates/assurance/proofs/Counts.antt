@@ -3,7 +3,7 @@ use Rattle.std.proofs.Common.{◌≡◌, ℕ, zero, suc, ◌+◌, ◌*◌, ◌<�
 use Rattle.std.specs.List.{AllByRecursion}
 use Rattle.std.proofs.lemmas.Bool.Decides.{nat_tests}
 use Rattle.std.proofs.lemmas.Bool.{or_parts, cond_both, cases_Bool, cases_eq, eq-eqb}
-use Rattle.assurance.proofs.Ideal.{updated, members, Kind, kI, kC, kA, kE, kp, kc, ka, code, Record, is, has, Outcome, commit, abort, CoordinatorEntry, none, Open, Collecting, Announcing, SubordinateEntry, idle, Active, Prepared, Station, MessageKind, PREPARE, YES, NO, COMMIT, ABORT, INQUIRY, Run, Presumption, Logging, not_at_all, unforced, forced, written_station, forced_station, cut_station, Act, write, force, send, installed, dropped, Turn, stay, to_coordinator, to_subordinate, line, letter, send_each, outcome_mail, outcome_kind, await, logged, end_acts, abort_acts, force_if, ack_if, doubtful, resumed, restarted_station, opened_station}
+use Rattle.assurance.proofs.Ideal.{updated, members, Kind, kI, kC, kA, kE, kp, kc, ka, code, Record, is, has, Outcome, commit, abort, CoordinatorEntry, none, Open, Collecting, SubordinateEntry, idle, Active, Station, MessageKind, PREPARE, YES, NO, COMMIT, ABORT, INQUIRY, Run, Presumption, Logging, not_at_all, written_station, forced_station, cut_station, Act, write, force, send, installed, dropped, Turn, stay, to_coordinator, to_subordinate, line, letter, send_each, outcome_mail, outcome_kind, await, logged, end_acts, abort_acts, force_if, ack_if, doubtful, resumed, restarted_station, opened_station}
 use Rattle.assurance.proofs.Lasting.{No}
 use Rattle.assurance.proofs.Claims.{Laws}
 use Rattle.assurance.proofs.Rules.{Rule, vote, again, refuse, joins, decide, drop, enforce, confirm, less, finish, answer, start, deny, press, asks, acts_of, turn_of, Why, Did, by_did}
@@ -35,32 +35,25 @@ total k r y = kinds k r y.stable + kinds k r y.loose
 
 -- what an entry may still write
 abbrev pub opening_left : CoordinatorEntry → ℕ
-opening_left none = 0
 opening_left (Open a) = 1
-opening_left (Collecting a y) = 0
-opening_left (Announcing o w) = 0
+opening_left e = 0
 
 abbrev pub decision_left : CoordinatorEntry → ℕ
-decision_left none = 0
 decision_left (Open a) = 1
 decision_left (Collecting a y) = 1
-decision_left (Announcing o w) = 0
+decision_left e = 0
 
 abbrev pub end_left : CoordinatorEntry → ℕ
 end_left none = 0
-end_left (Open a) = 1
-end_left (Collecting a y) = 1
-end_left (Announcing o w) = 1
+end_left e = 1
 
 abbrev pub prepared_left : SubordinateEntry → ℕ
-prepared_left idle = 0
 prepared_left (Active c) = 1
-prepared_left (Prepared c) = 0
+prepared_left e = 0
 
 abbrev pub outcome_left : SubordinateEntry → ℕ
 outcome_left idle = 0
-outcome_left (Active c) = 1
-outcome_left (Prepared c) = 1
+outcome_left e = 1
 
 pub record FewS (y : Station) : Type 0 where
   pub is1 : (r : ℕ) → total kI r y + opening_left (y.coordinators r) ≤ 1
@@ -72,27 +65,18 @@ pub record FewS (y : Station) : Type 0 where
 abbrev pub wrote : Kind → ℕ → List Act → ℕ
 wrote k r [] = 0
 wrote k r (write x ∷ l) = one (is k r x) + wrote k r l
-wrote k r (force ∷ l) = wrote k r l
-wrote k r (send m ∷ l) = wrote k r l
-wrote k r (installed q ∷ l) = wrote k r l
-wrote k r (dropped q ∷ l) = wrote k r l
+wrote k r (a ∷ l) = wrote k r l
 
 wrote_append : (k : Kind) (r : ℕ) (l m : List Act) → wrote k r (l ++ m) ≡ wrote k r l + wrote k r m
 wrote_append k r [] m = omega arith
 wrote_append k r (write x ∷ l) m = omega (arith, wrote_append k r l m)
-wrote_append k r (force ∷ l) m = wrote_append k r l m
-wrote_append k r (send x ∷ l) m = wrote_append k r l m
-wrote_append k r (installed q ∷ l) m = wrote_append k r l m
-wrote_append k r (dropped q ∷ l) m = wrote_append k r l m
+wrote_append k r (a ∷ l) m = wrote_append k r l m
 
 wrote_take : (k : Kind) (r n : ℕ) (l : List Act) → wrote k r (take n l) ≤ wrote k r l
 wrote_take k r zero l = omega arith
 wrote_take k r (suc n) [] = omega arith
 wrote_take k r (suc n) (write x ∷ l) = omega (arith, wrote_take k r n l)
-wrote_take k r (suc n) (force ∷ l) = wrote_take k r n l
-wrote_take k r (suc n) (send m ∷ l) = wrote_take k r n l
-wrote_take k r (suc n) (installed q ∷ l) = wrote_take k r n l
-wrote_take k r (suc n) (dropped q ∷ l) = wrote_take k r n l
+wrote_take k r (suc n) (a ∷ l) = wrote_take k r n l
 
 wrote_sends : (k : Kind) (q : ℕ) (m : MessageKind) (r s : ℕ) (ts : List ℕ) → wrote k q (send_each m r s ts) ≡ 0
 wrote_sends k q m r s [] = refl
@@ -102,24 +86,19 @@ total_locals : (k : Kind) (r : ℕ) (l : List Act) (y : Station) → total k r (
 total_locals k r [] y = omega arith
 total_locals k r (write x ∷ l) y = omega (arith, total_locals k r l (written_station x y), kinds_append k r y.loose (x ∷ []))
 total_locals k r (force ∷ l) y = omega (arith, total_locals k r l (forced_station y), kinds_append k r y.stable y.loose)
-total_locals k r (send m ∷ l) y = total_locals k r l y
-total_locals k r (installed q ∷ l) y = total_locals k r l y
-total_locals k r (dropped q ∷ l) y = total_locals k r l y
+total_locals k r (a ∷ l) y = total_locals k r l y
 
 total_turn : (k : Kind) (r : ℕ) (tn : Turn) (y : Station) → total k r (turned_station tn y) ≡ total k r y
 total_turn k r stay y = refl
-total_turn k r (to_coordinator q e) y = refl
-total_turn k r (to_subordinate q e) y = refl
+total_turn k r tn y = refl
 
 co_after : (l : List Act) (tn : Turn) (y : Station) (q : ℕ) → (turned_station tn (locals l y)).coordinators q ≡ (turned_station tn y).coordinators q
-co_after l stay y q = ap (λ (f : ℕ → CoordinatorEntry). f q) (same_locals l y).1
 co_after l (to_coordinator r e) y q = ap (λ (f : ℕ → CoordinatorEntry). updated f r e q) (same_locals l y).1
-co_after l (to_subordinate r e) y q = ap (λ (f : ℕ → CoordinatorEntry). f q) (same_locals l y).1
+co_after l tn y q = ap (λ (f : ℕ → CoordinatorEntry). f q) (same_locals l y).1
 
 sub_after : (l : List Act) (tn : Turn) (y : Station) (q : ℕ) → (turned_station tn (locals l y)).subordinates q ≡ (turned_station tn y).subordinates q
-sub_after l stay y q = ap (λ (f : ℕ → SubordinateEntry). f q) (same_locals l y).2
-sub_after l (to_coordinator r e) y q = ap (λ (f : ℕ → SubordinateEntry). f q) (same_locals l y).2
 sub_after l (to_subordinate r e) y q = ap (λ (f : ℕ → SubordinateEntry). updated f r e q) (same_locals l y).2
+sub_after l tn y q = ap (λ (f : ℕ → SubordinateEntry). f q) (same_locals l y).2
 
 -- a step writes no more than its entry gives up
 pub record Debit (l : List Act) (tn : Turn) (y : Station) : Type 0 where
@@ -169,8 +148,7 @@ few_part n f l tn y h d =
 module _ (π : Presumption) (𝓛 : Laws π) where
   wrote_log : (k : Kind) (q : ℕ) (l : Logging) (x : Record) → wrote k q (logged l x) ≤ one (is k q x)
   wrote_log k q not_at_all x = omega arith
-  wrote_log k q unforced x = omega arith
-  wrote_log k q forced x = omega arith
+  wrote_log k q y x = omega arith
 
   wrote_end : (k : Kind) (q r all d : ℕ) → wrote k q (end_acts π r all d) ≤ one (is k q (line kE r 0))
   wrote_end k q r all d = cond_both (not (eqb (π.ackers abort all) 0) && eqb (π.ackers abort d) 0) (write (line kE r 0) ∷ []) [] (λ (l : List Act). wrote k q l ≤ one (is k q (line kE r 0))) (λ _. omega arith) (λ _. omega arith)
@@ -340,12 +318,7 @@ all_kinds r (x ∷ l) = go x.kind refl (all_kinds r l)
   where
     go : (k : Kind) → x.kind ≡ k → of_rev r l ≤ kinds kI r l + kinds kC r l + kinds kA r l + kinds kE r l + kinds kp r l + kinds kc r l + kinds ka r l → of_rev r (x ∷ l) ≤ kinds kI r (x ∷ l) + kinds kC r (x ∷ l) + kinds kA r (x ∷ l) + kinds kE r (x ∷ l) + kinds kp r (x ∷ l) + kinds kc r (x ∷ l) + kinds ka r (x ∷ l)
     go kI e h = omega (arith, h, by_kind kI r x e)
-    go kC e h = omega (arith, h, by_kind kC r x e)
-    go kA e h = omega (arith, h, by_kind kA r x e)
-    go kE e h = omega (arith, h, by_kind kE r x e)
-    go kp e h = omega (arith, h, by_kind kp r x e)
-    go kc e h = omega (arith, h, by_kind kc r x e)
-    go ka e h = omega (arith, h, by_kind ka r x e)
+    go k e h = omega (arith, h, by_kind k r x e)
 
 -- at most five for each revision
 pub room : (n : ℕ) (y : Station) → AllByRecursion (λ x. x.revision < n) y.stable → AllByRecursion (λ x. x.revision < n) y.loose → FewS y → length y.stable + length y.loose ≤ n * 5

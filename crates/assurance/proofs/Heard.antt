@@ -90,8 +90,7 @@ module _ (π : Answers) (𝓗 : Lawful π) (n : ℕ) (two : 2 ≤ n) (eight : n 
 
   log_as : (l : Logging) (x : Record) → map act_as (logged l x) ≡ ideal.logged (logging_as l) (record_as x)
   log_as logging.NotAtAll x = refl
-  log_as logging.Unforced x = refl
-  log_as logging.Forced x = refl
+  log_as y x = refl
 
   abort_acts : (r s : ℕ) (x y : StationSet) → (x.bits ≡ 0 → ⊥) → Within n y.bits → map act_as (abort π s r x y) ≡ ideal.abort_acts Q r s x.bits y.bits
   abort_acts r s x y h w =
@@ -165,9 +164,6 @@ module _ (π : Answers) (𝓗 : Lawful π) (n : ℕ) (two : 2 ≤ n) (eight : n 
 
     on_yes_view : (e : CoordinatorEntry) → t < n → coordinator_at st.stations s r ≡ e → Makes (on_yes π e t).step (turn.Coordinator (on_yes π e t).next) (ideal.upon_yes Q r s t (co_as e) f k V)
     unfolding ideal.in_set
-    on_yes_view coordinator.None lt q = still_co coordinator.None q
-    on_yes_view (coordinator.Open x) lt q = still_co (coordinator.Open x) q
-    on_yes_view (coordinator.Announcing o w) lt q = still_co (coordinator.Announcing o w) q
     on_yes_view (coordinator.Collecting x y) lt q = go (holds x t)
       where
         more : (b : Bool) → Makes (cond b (decide_commit π x) (record { step = step.Rest; next = coordinator.Collecting x (with_station y t) })).step (turn.Coordinator (cond b (decide_commit π x) (record { step = step.Rest; next = coordinator.Collecting x (with_station y t) })).next)
@@ -182,6 +178,7 @@ module _ (π : Answers) (𝓗 : Lawful π) (n : ℕ) (two : 2 ≤ n) (eight : n 
         go true = subst (λ (c : ℕ). Makes (cond (eqb (with_station y t).bits x.bits) (decide_commit π x) (record { step = step.Rest; next = coordinator.Collecting x (with_station y t) })).step (turn.Coordinator (cond (eqb (with_station y t).bits x.bits) (decide_commit π x) (record { step = step.Rest; next = coordinator.Collecting x (with_station y t) })).next)
             (cond (eqb c x.bits) (ideal.step s (ideal.commit_acts Q r s x.bits) (ideal.to_coordinator r (ideal.await ideal.commit (Q.ackers ideal.commit x.bits))) f k V) (ideal.at_station s (ideal.set_coordinator r (ideal.Collecting x.bits (ideal.with_station y.bits t))) V))) (with_as y t (omega arith)) (more (eqb (with_station y t).bits x.bits))
         go false = still_co (coordinator.Collecting x y) q
+    on_yes_view e lt q = still_co e q
 
     -- the decision to abort, for those told
     decided : (x y : StationSet) (d : ℕ) → Why Q (V.station s) r t (rule.drop x.bits d) → x.bits ≡ (V.plan r).names → Within n y.bits → y.bits ≡ d
@@ -193,9 +190,6 @@ module _ (π : Answers) (𝓗 : Lawful π) (n : ℕ) (two : 2 ≤ n) (eight : n 
 
     on_no_view : (e : CoordinatorEntry) → t < n → coordinator_at st.stations s r ≡ e → Makes (on_no π e t).step (turn.Coordinator (on_no π e t).next) (ideal.upon_no Q r s t (co_as e) f k V)
     unfolding ideal.in_set
-    on_no_view coordinator.None lt q = still_co coordinator.None q
-    on_no_view (coordinator.Open x) lt q = still_co (coordinator.Open x) q
-    on_no_view (coordinator.Announcing o w) lt q = still_co (coordinator.Announcing o w) q
     on_no_view (coordinator.Collecting x y) lt q = go (holds x t)
       where
         same : x.bits ≡ (V.plan r).names
@@ -209,12 +203,10 @@ module _ (π : Answers) (𝓗 : Lawful π) (n : ℕ) (two : 2 ≤ n) (eight : n 
         go true = decided x (without_station x t) (ideal.without_station x.bits t) (inr (y.bits, ap co_as q)) same
             (λ u m. names_within r x.bits same u (del_back x.bits t u (subst (λ (c : ℕ). ideal.in_set c u ≡ true) less m))) less
         go false = still_co (coordinator.Collecting x y) q
+    on_no_view e lt q = still_co e q
 
     on_ack_view : (e : CoordinatorEntry) → t < n → coordinator_at st.stations s r ≡ e → Makes (on_ack e t).step (turn.Coordinator (on_ack e t).next) (ideal.upon_ack Q r s t (co_as e) f k V)
     unfolding ideal.in_set
-    on_ack_view coordinator.None lt q = still_co coordinator.None q
-    on_ack_view (coordinator.Open x) lt q = still_co (coordinator.Open x) q
-    on_ack_view (coordinator.Collecting x y) lt q = still_co (coordinator.Collecting x y) q
     on_ack_view (coordinator.Announcing o w) lt q = go (holds w t)
       where
         less : (without_station w t).bits ≡ ideal.without_station w.bits t
@@ -230,15 +222,15 @@ module _ (π : Answers) (𝓗 : Lawful π) (n : ℕ) (two : 2 ≤ n) (eight : n 
         go true = subst (λ (c : ℕ). Makes (cond {A = Move CoordinatorEntry} (eqb (without_station w t).bits 0) (record { step = step.End; next = coordinator.None }) (record { step = step.Rest; next = coordinator.Announcing o (without_station w t) })).step (turn.Coordinator (cond {A = Move CoordinatorEntry} (eqb (without_station w t).bits 0) (record { step = step.End; next = coordinator.None }) (record { step = step.Rest; next = coordinator.Announcing o (without_station w t) })).next)
             (cond (eqb c 0) (ideal.step s (ideal.write (ideal.line ideal.kE r 0) ∷ []) (ideal.to_coordinator r ideal.none) f k V) (ideal.at_station s (ideal.set_coordinator r (ideal.Announcing (outcome_as o) (ideal.without_station w.bits t))) V))) less (more (eqb (without_station w t).bits 0))
         go false = still_co (coordinator.Announcing o w) q
+    on_ack_view e lt q = still_co e q
 
     tell_acts : (o : Outcome) → map act_as (post (letter (telling o) r s t) ∷ []) ≡ ideal.send (ideal.letter (ideal.outcome_mail (outcome_as o)) r s t) ∷ []
     tell_acts o = ap (λ (m : ideal.MessageKind). ideal.send (ideal.letter m r s t) ∷ []) (telling_as o)
 
     on_inquiry_view : (e : CoordinatorEntry) → coordinator_at st.stations s r ≡ e → Makes (on_inquiry π e t).step (turn.Coordinator (on_inquiry π e t).next) (ideal.upon_inquiry Q r s t (co_as e) f k V)
     on_inquiry_view coordinator.None q = ruled (rule.answer (outcome_as π.presumed)) (step.Tell (known π.presumed) t) (turn.Coordinator coordinator.None) tt (tell_acts π.presumed) (stays_co π 𝓗 n two eight s r (rule.answer (outcome_as π.presumed)) coordinator.None st q refl)
-    on_inquiry_view (coordinator.Open x) q = still_co (coordinator.Open x) q
-    on_inquiry_view (coordinator.Collecting x y) q = still_co (coordinator.Collecting x y) q
     on_inquiry_view (coordinator.Announcing o w) q = ruled (rule.answer (outcome_as o)) (step.Tell (known o) t) (turn.Coordinator (coordinator.Announcing o w)) tt (tell_acts o) (stays_co π 𝓗 n two eight s r (rule.answer (outcome_as o)) (coordinator.Announcing o w) st q refl)
+    on_inquiry_view e q = still_co e q
 
     -- a message that is heard
     pub heard_view : (m : MessageKind) → t < n → Makes (heard π st.stations (letter m r t s)).step (heard π st.stations (letter m r t s)).next (ideal.handed Q (mail_as m) r s t f k V)

@@ -230,9 +230,8 @@ module _ (π : Answers) (𝓗 : Lawful π) (m : List Section) (ok : fits m ≡ t
     forth k r s h = (sym (has_as k r (section st.store.journal s).stable) ∙ h.0, sym (has_as k r (section st.store.journal s).unforced) ∙ h.1)
 
     prepared_is : (e : SubordinateEntry) (d : ℕ) → sub_as e ≡ ideal.Prepared d → e ≡ subordinate.Prepared d
-    prepared_is subordinate.None d q = let z : ◌≡◌ {A = ℕ} 0 1 = cc in absurd (omega arith)
-    prepared_is (subordinate.Active c) d q = let z : ◌≡◌ {A = ℕ} 0 1 = cc in absurd (omega arith)
     prepared_is (subordinate.Prepared c) d q = cc
+    prepared_is e d q = let z : ◌≡◌ {A = ℕ} 0 1 = cc in absurd (omega arith)
 
     powered_is : (s : ℕ) → s < n → (V.station s).power ≡ power_at st.stations s
     powered_is s l = cond-true (ltb s n) _ _ (lt-ltb s n l)

@@ -250,20 +250,16 @@ module _ (π : Presumption) where
   upon_prepare r s t idle f k st = step s (send (letter NO r s t) ∷ []) stay f k st
 
   abbrev pub upon_yes : ℕ → ℕ → ℕ → CoordinatorEntry → ℕ → ℕ → Run → Run
-  upon_yes r s t none f k st = st
-  upon_yes r s t (Open all) f k st = st
-  upon_yes r s t (Announcing o w) f k st = st
   upon_yes r s t (Collecting all ys) f k st =
       cond (in_set all t) (cond (eqb (with_station ys t) all) (step s (commit_acts r s all) (to_coordinator r (await commit (π.ackers commit all))) f k st) (at_station s (set_coordinator r (Collecting all (with_station ys t))) st)) st
+  upon_yes r s t e f k st = st
 
   abbrev pub decide_abort : ℕ → ℕ → ℕ → ℕ → ℕ → ℕ → Run → Run
   decide_abort r s all d f k st = step s (abort_acts r s all d) (to_coordinator r (await abort (π.ackers abort d))) f k st
 
   abbrev pub upon_no : ℕ → ℕ → ℕ → CoordinatorEntry → ℕ → ℕ → Run → Run
-  upon_no r s t none f k st = st
-  upon_no r s t (Open all) f k st = st
-  upon_no r s t (Announcing o w) f k st = st
   upon_no r s t (Collecting all ys) f k st = cond (in_set all t) (decide_abort r s all (without_station all t) f k st) st
+  upon_no r s t e f k st = st
 
   abbrev pub upon_outcome : Outcome → ℕ → ℕ → ℕ → SubordinateEntry → ℕ → ℕ → Run → Run
   upon_outcome o r s t idle f k st = step s (ack_if (π.acks o s) r s t) stay f k st
@@ -272,46 +268,36 @@ module _ (π : Presumption) where
   upon_outcome o r s t (Prepared c) f k st = step s (enforce_acts o r s c) (to_subordinate r idle) f k st
 
   abbrev pub upon_ack : ℕ → ℕ → ℕ → CoordinatorEntry → ℕ → ℕ → Run → Run
-  upon_ack r s t none f k st = st
-  upon_ack r s t (Open all) f k st = st
-  upon_ack r s t (Collecting all ys) f k st = st
   upon_ack r s t (Announcing o w) f k st =
       cond (in_set w t) (cond (eqb (without_station w t) 0) (step s (write (line kE r 0) ∷ []) (to_coordinator r none) f k st) (at_station s (set_coordinator r (Announcing o (without_station w t))) st)) st
+  upon_ack r s t e f k st = st
 
   abbrev pub upon_inquiry : ℕ → ℕ → ℕ → CoordinatorEntry → ℕ → ℕ → Run → Run
   upon_inquiry r s t none f k st = step s (send (letter (outcome_mail (π.presumed t)) r s t) ∷ []) stay f k st
-  upon_inquiry r s t (Open all) f k st = st
-  upon_inquiry r s t (Collecting all ys) f k st = st
   upon_inquiry r s t (Announcing o w) f k st = step s (send (letter (outcome_mail o) r s t) ∷ []) stay f k st
+  upon_inquiry r s t e f k st = st
 
   -- what a station does upon each call
   abbrev pub upon_close : ℕ → ℕ → CoordinatorEntry → ℕ → ℕ → Run → Run
-  upon_close r s none f k st = st
   upon_close r s (Open all) f k st = step s (close_acts r s all) (to_coordinator r (Collecting all 0)) f k st
-  upon_close r s (Collecting all ys) f k st = st
-  upon_close r s (Announcing o w) f k st = st
+  upon_close r s e f k st = st
 
   abbrev pub upon_give_up : ℕ → ℕ → CoordinatorEntry → ℕ → ℕ → Run → Run
-  upon_give_up r s none f k st = st
   upon_give_up r s (Open all) f k st = decide_abort r s all all f k st
   upon_give_up r s (Collecting all ys) f k st = decide_abort r s all all f k st
-  upon_give_up r s (Announcing o w) f k st = st
+  upon_give_up r s e f k st = st
 
   abbrev pub upon_reject : ℕ → ℕ → SubordinateEntry → ℕ → ℕ → Run → Run
-  upon_reject r s idle f k st = st
-  upon_reject r s (Prepared c) f k st = st
   upon_reject r s (Active c) f k st = step s (reject_acts r s c) (to_subordinate r idle) f k st
+  upon_reject r s e f k st = st
 
   abbrev pub upon_chase : ℕ → ℕ → CoordinatorEntry → ℕ → ℕ → Run → Run
-  upon_chase r s none f k st = st
-  upon_chase r s (Open all) f k st = st
-  upon_chase r s (Collecting all ys) f k st = st
   upon_chase r s (Announcing o w) f k st = step s (send_each (outcome_mail o) r s (members π.size w)) stay f k st
+  upon_chase r s e f k st = st
 
   abbrev pub upon_inquire : ℕ → ℕ → SubordinateEntry → ℕ → ℕ → Run → Run
-  upon_inquire r s idle f k st = st
-  upon_inquire r s (Active c) f k st = st
   upon_inquire r s (Prepared c) f k st = step s (send (letter INQUIRY r s c) ∷ []) stay f k st
+  upon_inquire r s e f k st = st
 
   -- a message handed to station s from station t
   abbrev pub handed : MessageKind → ℕ → ℕ → ℕ → ℕ → ℕ → Run → Run
@@ -411,10 +397,9 @@ module _ (π : Presumption) where
   emptied st k = drain (load π.size st.post) st.post st k
 
   abbrev pub nudge : ℕ → ℕ → CoordinatorEntry → Run → Run
-  nudge r s none st = st
-  nudge r s (Open all) st = st
   nudge r s (Collecting all ys) st = upon_give_up π r s (Collecting all ys) 255 0 st
   nudge r s (Announcing o w) st = upon_chase π r s (Announcing o w) 255 0 st
+  nudge r s e st = st
 
   -- give up if Collecting, chase if Announcing, at the coordinator
   abbrev pub urged : ℕ → Run → Run

@@ -3,7 +3,7 @@ use Rattle.std.proofs.Common.{◌≡◌, ℕ, ◌<◌, true, false, List, ◌∷
 use Rattle.std.specs.List.{AllByRecursion}
 use Rattle.std.proofs.lemmas.Bool.Decides.{nat_tests}
 use Rattle.std.proofs.lemmas.Bool.{cond_both, cases_Bool, true≢false}
-use Rattle.assurance.proofs.Ideal.{Kind, kI, kC, kA, kE, kp, kc, ka, code, Record, has, argument_of, CoordinatorEntry, none, Open, Collecting, Announcing, MessageKind, PREPARE, YES, NO, COMMIT, ABORT, ACK, INQUIRY, Message, Run, Presumption, with_post, letter, upon_inquire, handed, upon_open, hand_first, nudge, urged, asked}
+use Rattle.assurance.proofs.Ideal.{Kind, kI, kC, kA, kp, code, Record, has, argument_of, CoordinatorEntry, Collecting, Announcing, MessageKind, PREPARE, YES, NO, COMMIT, ABORT, ACK, INQUIRY, Message, Run, Presumption, with_post, letter, upon_inquire, handed, upon_open, hand_first, nudge, urged, asked}
 use Rattle.assurance.proofs.Lasting.{No, Doom, world, head, Abort, Legal, RecLegal}
 use Rattle.assurance.proofs.SafeActs.{SafeSt}
 use Rattle.assurance.proofs.Claims.{Laws}
@@ -34,10 +34,9 @@ module _ (π : Presumption) (𝓛 : Laws π) where
   safe_nudge r s st h = go ((st.station s).coordinators r) refl
     where
       go : (e : CoordinatorEntry) → (st.station s).coordinators r ≡ e → SafeSt π (nudge π r s e st)
-      go none e = h.safe
-      go (Open all) e = h.safe
       go (Collecting all ys) e = safe_give_up π 𝓛 r s (Collecting all ys) 255 0 st h.safe (h.tidy s) e
       go (Announcing o w) e = safe_chase π 𝓛 r s (Announcing o w) 255 0 st h.safe e
+      go x e = h.safe
 
   pub inv_post : (st : Run) (p : List Message) → Inv st → AllByRecursion (Legal π (world st)) p → Inv (with_post p st)
   inv_post st p h a = record { safe = record { msgs = a; installs = h.safe.installs; drops = h.safe.drops; recs = h.safe.recs; cos = h.safe.cos; subs = h.safe.subs }; tidy = h.tidy }
@@ -91,10 +90,7 @@ module _ (π : Presumption) (𝓛 : Laws π) where
   args_of s st h kI q l e = (has_legal π (world st) s kI q (st.station s).stable (h.recs s).0 e).1.1
   args_of s st h kC q l e = (has_legal π (world st) s kC q (st.station s).stable (h.recs s).0 e).1.1
   args_of s st h kA q l e = (has_legal π (world st) s kA q (st.station s).stable (h.recs s).0 e).1.1
-  args_of s st h kE q l e = absurd (omega arith)
-  args_of s st h kp q l e = absurd (omega arith)
-  args_of s st h kc q l e = absurd (omega arith)
-  args_of s st h ka q l e = absurd (omega arith)
+  args_of s st h k q l e = absurd (omega arith)
 
   -- what is surely aborted has no commit record anywhere, stable or not
   pub no_commit : (st : Run) → SafeSt π st → (r s : ℕ) → Abort (world st) r → No kC r (st.station s)

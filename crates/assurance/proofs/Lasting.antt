@@ -25,26 +25,21 @@ abbrev pub No : Kind → ℕ → Station → Type 0
 No k r x = (has k r x.stable ≡ false) × (has k r x.loose ≡ false)
 
 abbrev pub Past : CoordinatorEntry → Type 0
-Past none = Unit {0}
 Past (Open a) = ⊥
 Past (Collecting a y) = ⊥
-Past (Announcing o w) = Unit {0}
+Past e = Unit {0}
 
 abbrev pub Shut : CoordinatorEntry → Type 0
-Shut none = Unit {0}
 Shut (Open a) = ⊥
-Shut (Collecting a y) = Unit {0}
-Shut (Announcing o w) = Unit {0}
+Shut e = Unit {0}
 
 abbrev pub Inactive : SubordinateEntry → Type 0
-Inactive idle = Unit {0}
 Inactive (Active c) = ⊥
-Inactive (Prepared c) = Unit {0}
+Inactive e = Unit {0}
 
 abbrev pub Idle : SubordinateEntry → Type 0
 Idle idle = Unit {0}
-Idle (Active c) = ⊥
-Idle (Prepared c) = ⊥
+Idle e = ⊥
 
 abbrev pub Doom : ℕ → Station → Type 0
 Doom r x = No kC r x × Past (x.coordinators r)

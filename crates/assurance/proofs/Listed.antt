@@ -31,12 +31,7 @@ use Rattle.assurance.proofs.Opened.{open_view, powers}
 
 weight_as : (n : ℕ) (k : MessageKind) → weight n k ≡ ideal.weigh n (mail_as k)
 weight_as n message.Prepare = refl
-weight_as n message.Yes = refl
-weight_as n message.No = refl
-weight_as n message.Commit = refl
-weight_as n message.Abort = refl
-weight_as n message.Ack = refl
-weight_as n message.Inquiry = refl
+weight_as n m = refl
 
 load_as : (n : ℕ) (p : List Message) → load n p ≡ ideal.load n (map message_as p)
 load_as n [] = refl
@@ -44,12 +39,7 @@ load_as n (m ∷ p) = λ i. weight_as n m.kind i + load_as n p i
 
 weight_more : (n : ℕ) (k : MessageKind) → n ≤ 8 → weight n k ≤ weight 8 k
 weight_more n message.Prepare h = omega arith
-weight_more n message.Yes h = omega arith
-weight_more n message.No h = omega arith
-weight_more n message.Commit h = omega arith
-weight_more n message.Abort h = omega arith
-weight_more n message.Ack h = omega arith
-weight_more n message.Inquiry h = omega arith
+weight_more n m h = omega arith
 
 load_more : (n : ℕ) (p : List Message) → n ≤ 8 → load n p ≤ load 8 p
 load_more n [] h = omega arith
@@ -120,8 +110,6 @@ module _ (π : Answers) (𝓗 : Lawful π) (n : ℕ) (two : 2 ≤ n) (eight : n 
   urged_view r st g = go (coordinator_entry r st) refl
     where
       go : (e : CoordinatorEntry) → coordinator_entry r st ≡ e → To (urged π e r st) (cond ((view n st).station (coordinator_of r st)).power (ideal.nudge Q r (coordinator_of r st) (((view n st).station (coordinator_of r st)).coordinators r) (view n st)) (view n st))
-      go coordinator.None q = (sym (ap (λ (c : CoordinatorEntry). cond ((view n st).station (coordinator_of r st)).power (ideal.nudge Q r (coordinator_of r st) (co_as c) (view n st)) (view n st)) q ∙ same_cond _ (view n st)), g.shape)
-      go (coordinator.Open x) q = (sym (ap (λ (c : CoordinatorEntry). cond ((view n st).station (coordinator_of r st)).power (ideal.nudge Q r (coordinator_of r st) (co_as c) (view n st)) (view n st)) q ∙ same_cond _ (view n st)), g.shape)
       go (coordinator.Collecting x y) q =
           let t = give_up_view π 𝓗 n two eight st g r 255 0 in (
             t.0 ∙ (ap (λ (c : CoordinatorEntry). cond ((view n st).station (coordinator_of r st)).power (ideal.upon_give_up Q r (coordinator_of r st) (co_as c) 255 0 (view n st)) (view n st)) q
@@ -134,6 +122,7 @@ module _ (π : Answers) (𝓗 : Lawful π) (n : ℕ) (two : 2 ≤ n) (eight : n 
                 ∙ sym (ap (λ (c : CoordinatorEntry). cond ((view n st).station (coordinator_of r st)).power (ideal.nudge Q r (coordinator_of r st) (co_as c) (view n st)) (view n st)) q)),
             t.1,
           )
+      go e q = (sym (ap (λ (c : CoordinatorEntry). cond ((view n st).station (coordinator_of r st)).power (ideal.nudge Q r (coordinator_of r st) (co_as c) (view n st)) (view n st)) q ∙ same_cond _ (view n st)), g.shape)
 
   inquired_view : (r s : ℕ) (st : State) → s < n → Fine st → To (inquired π (subordinate_at st.stations s r) r s st) (ideal.asked Q r s (view n st))
   inquired_view r s st l g = go (subordinate_at st.stations s r) refl

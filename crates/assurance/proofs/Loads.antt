@@ -1,11 +1,11 @@
 -- Each delivery lowers the load of the post, so emptying it ends; how many deliveries settling makes.
 use Rattle.std.proofs.Common.{◌≡◌, ℕ, zero, suc, ◌+◌, ◌*◌, ◌<◌, ◌≤◌, Bool, true, false, not, ◌&&◌, eqb, ltb, List, [], ◌∷◌, ◌++◌, length, take, sym, refl, ap, arith}
 use Rattle.std.proofs.lemmas.Bool.{cond_both}
-use Rattle.assurance.proofs.Ideal.{members, kA, kE, Record, Outcome, commit, abort, CoordinatorEntry, none, Open, Collecting, Announcing, SubordinateEntry, idle, Active, Prepared, MessageKind, PREPARE, YES, NO, COMMIT, ABORT, ACK, INQUIRY, Message, Run, Presumption, Logging, not_at_all, unforced, forced, at_station, cut_station, with_message, marked_installed, marked_dropped, with_post, Act, write, force, send, installed, dropped, act_done, acts_done, Turn, stay, to_coordinator, to_subordinate, turn, step, line, letter, send_each, outcome_mail, await, logged, end_acts, abort_acts, force_if, ack_if, enforce_acts, upon_inquire, handed, weigh, load, hand_first, drain, emptied, nudge, urged, asked, inquire_all, revise, revise_all, settled}
+use Rattle.assurance.proofs.Ideal.{members, kA, kE, Record, Outcome, commit, abort, CoordinatorEntry, Collecting, Announcing, SubordinateEntry, Prepared, MessageKind, PREPARE, COMMIT, ABORT, INQUIRY, Message, Run, Presumption, Logging, not_at_all, at_station, cut_station, with_message, marked_installed, marked_dropped, with_post, Act, write, force, send, installed, dropped, act_done, acts_done, Turn, stay, to_coordinator, turn, step, line, letter, send_each, outcome_mail, await, logged, end_acts, abort_acts, force_if, ack_if, enforce_acts, upon_inquire, handed, weigh, load, hand_first, drain, emptied, nudge, urged, asked, inquire_all, revise, revise_all, settled}
 use Rattle.std.proofs.lemmas.List.FromFn.{length-range_with_len}
 use Rattle.std.specs.List.{range_with_len}
 use Rattle.assurance.proofs.Claims.{Laws}
-use Rattle.assurance.proofs.Rules.{Rule, vote, again, refuse, joins, decide, drop, enforce, confirm, less, finish, answer, start, deny, press, asks, acts_of, turn_of, For, by_did, did_handed, few_members}
+use Rattle.assurance.proofs.Rules.{Rule, decide, drop, enforce, confirm, answer, start, deny, press, asks, acts_of, turn_of, For, by_did, did_handed, few_members}
 
 -- what waits weighs, in messages of each kind
 pub load_append : (n : ℕ) (l m : List Message) → load n (l ++ m) ≡ load n l + load n m
@@ -14,21 +14,11 @@ load_append n (x ∷ l) m = omega (arith, load_append n l m)
 
 pub weigh_some : (n : ℕ) (m : MessageKind) → 0 < weigh n m
 weigh_some n PREPARE = omega arith
-weigh_some n YES = omega arith
-weigh_some n NO = omega arith
-weigh_some n COMMIT = omega arith
-weigh_some n ABORT = omega arith
-weigh_some n ACK = omega arith
-weigh_some n INQUIRY = omega arith
+weigh_some n m = omega arith
 
 weigh_most : (n : ℕ) (m : MessageKind) → 1 ≤ n → weigh n m ≤ 2 * n + 2
 weigh_most n PREPARE h = omega arith
-weigh_most n YES h = omega arith
-weigh_most n NO h = omega arith
-weigh_most n COMMIT h = omega arith
-weigh_most n ABORT h = omega arith
-weigh_most n ACK h = omega arith
-weigh_most n INQUIRY h = omega arith
+weigh_most n m h = omega arith
 
 pub load_most : (n : ℕ) (l : List Message) → 1 ≤ n → load n l ≤ (2 * n + 2) * length l
 load_most n [] h = omega arith
@@ -36,19 +26,13 @@ load_most n (m ∷ l) h = omega (arith, weigh_most n m.mail h, load_most n l h)
 
 abbrev pub posted : ℕ → List Act → ℕ
 posted n [] = 0
-posted n (write x ∷ l) = posted n l
-posted n (force ∷ l) = posted n l
 posted n (send m ∷ l) = weigh n m.mail + posted n l
-posted n (installed r ∷ l) = posted n l
-posted n (dropped r ∷ l) = posted n l
+posted n (a ∷ l) = posted n l
 
 posted_append : (n : ℕ) (l m : List Act) → posted n (l ++ m) ≡ posted n l + posted n m
 posted_append n [] m = omega arith
-posted_append n (write x ∷ l) m = posted_append n l m
-posted_append n (force ∷ l) m = posted_append n l m
 posted_append n (send x ∷ l) m = omega (arith, posted_append n l m)
-posted_append n (installed r ∷ l) m = posted_append n l m
-posted_append n (dropped r ∷ l) m = posted_append n l m
+posted_append n (a ∷ l) m = posted_append n l m
 
 load_send : (n : ℕ) (m : Message) (st : Run) → load n (with_message m st).post ≤ weigh n m.mail + load n st.post
 load_send n m st = cond_both (ltb (length st.post) 64) (st.post ++ (m ∷ [])) st.post (λ p. load n p ≤ weigh n m.mail + load n st.post) (λ _. omega (arith, load_append n st.post (m ∷ []))) (λ _. omega arith)
@@ -64,16 +48,12 @@ load_acts n s (dropped r ∷ l) st = load_acts n s l (marked_dropped r s st)
 posted_take : (n f : ℕ) (l : List Act) → posted n (take f l) ≤ posted n l
 posted_take n zero l = omega arith
 posted_take n (suc f) [] = omega arith
-posted_take n (suc f) (write x ∷ l) = posted_take n f l
-posted_take n (suc f) (force ∷ l) = posted_take n f l
 posted_take n (suc f) (send m ∷ l) = omega (arith, posted_take n f l)
-posted_take n (suc f) (installed r ∷ l) = posted_take n f l
-posted_take n (suc f) (dropped r ∷ l) = posted_take n f l
+posted_take n (suc f) (a ∷ l) = posted_take n f l
 
 load_turn : (n s : ℕ) (t : Turn) (st : Run) → load n (turn s t st).post ≤ load n st.post
 load_turn n s stay st = omega arith
-load_turn n s (to_coordinator r e) st = omega arith
-load_turn n s (to_subordinate r e) st = omega arith
+load_turn n s tn st = omega arith
 
 pub load_step : (n s : ℕ) (l : List Act) (t : Turn) (f k : ℕ) (st : Run) → load n (step s l t f k st).post ≤ posted n l + load n st.post
 load_step n s l t f k st =
@@ -94,8 +74,7 @@ module _ (π : Presumption) (𝓛 : Laws π) where
 
   posted_log : (n : ℕ) (l : Logging) (x : Record) → posted n (logged l x) ≡ 0
   posted_log n not_at_all x = refl
-  posted_log n unforced x = refl
-  posted_log n forced x = refl
+  posted_log n y x = refl
 
   posted_end : (n r all d : ℕ) → posted n (end_acts π r all d) ≡ 0
   posted_end n r all d = cond_both (not (eqb (π.ackers abort all) 0) && eqb (π.ackers abort d) 0) (write (line kE r 0) ∷ []) [] (λ (l : List Act). posted n l ≡ 0) (λ _. refl) (λ _. refl)
@@ -114,21 +93,16 @@ module _ (π : Presumption) (𝓛 : Laws π) where
       omega (arith, posted_append n (logged (π.logs all) (line kA r all)) (send_each ABORT r s (members n d) ++ end_acts π r all d), posted_append n (send_each ABORT r s (members n d)) (end_acts π r all d), posted_log n (π.logs all) (line kA r all), posted_end n r all d, posted_send n ABORT r s (members n d), few_members n d)
 
   posted_rule : (u : Rule) (m : MessageKind) (r s t : ℕ) → For π u m → posted π.size (acts_of π u r s t) < weigh π.size m
-  posted_rule (vote c) m r s t e = rw (← e) (omega arith)
-  posted_rule again m r s t e = rw (← e) (omega arith)
-  posted_rule refuse m r s t e = rw (← e) (omega arith)
-  posted_rule (joins all ys) m r s t e = rw (← e) (omega arith)
   posted_rule (decide all) m r s t e = rw (← e) (omega (arith, posted_send π.size COMMIT r s (members π.size all), few_members π.size all))
   posted_rule (drop all d) m r s t e = rw (← e) (omega (arith, posted_drop r s all d))
   posted_rule (enforce o c) m r s t e = rw (← e) (omega (arith, weigh_outcome π.size o, posted_enforce π.size o r s c))
   posted_rule (confirm o) m r s t e = rw (← e) (omega (arith, weigh_outcome π.size o, posted_tail π.size false (π.acks o s) r s t))
-  posted_rule (less o w) m r s t e = rw (← e) (omega arith)
-  posted_rule finish m r s t e = rw (← e) (omega arith)
   posted_rule (answer o) m r s t e = rw (← e) (omega (arith, weigh_outcome π.size o))
   posted_rule (start all) m r s t e = absurd e
   posted_rule (deny c) m r s t e = absurd e
   posted_rule (press o w) m r s t e = absurd e
   posted_rule (asks c) m r s t e = absurd e
+  posted_rule u m r s t e = rw (← e) (omega arith)
 
   -- each delivery lowers the load
   pub load_handed : (m : MessageKind) (r s t f k : ℕ) (st : Run) → load π.size (handed π m r s t f k st).post < weigh π.size m + load π.size st.post
@@ -193,18 +167,16 @@ module _ (π : Presumption) (𝓛 : Laws π) where
       s = (st.plan r).coordinator
 
       go : (e : CoordinatorEntry) → load π.size (nudge π r (st.plan r).coordinator e st).post ≤ 2 * π.size + load π.size st.post
-      go none = omega arith
-      go (Open all) = omega arith
       go (Collecting all ys) = omega (arith, load_step π.size (st.plan r).coordinator (abort_acts π r (st.plan r).coordinator all all) (to_coordinator r (await abort (π.ackers abort all))) 255 0 st, posted_drop r (st.plan r).coordinator all all)
       go (Announcing o w) = omega (arith, load_step π.size (st.plan r).coordinator (send_each (outcome_mail o) r (st.plan r).coordinator (members π.size w)) stay 255 0 st, posted_send π.size (outcome_mail o) r (st.plan r).coordinator (members π.size w), few_members π.size w, ap (λ (x : ℕ). length (members π.size w) * x) (weigh_outcome π.size o))
+      go e = omega arith
 
   pub load_asked : (r s : ℕ) (st : Run) → load π.size (asked π r s st).post ≤ 3 + load π.size st.post
   load_asked r s st = cond_both (st.station s).power (upon_inquire π r s ((st.station s).subordinates r) 255 0 st) st (λ (u : Run). load π.size u.post ≤ 3 + load π.size st.post) (λ _. go ((st.station s).subordinates r)) (λ _. omega arith)
     where
       go : (e : SubordinateEntry) → load π.size (upon_inquire π r s e 255 0 st).post ≤ 3 + load π.size st.post
-      go idle = omega arith
-      go (Active c) = omega arith
       go (Prepared c) = omega (arith, load_step π.size s (send (letter INQUIRY r s c) ∷ []) stay 255 0 st)
+      go e = omega arith
 
   -- the count of deliveries
   made_asks : (r : ℕ) (ss : List ℕ) (st : Run) (k : ℕ) → st.post ≡ [] → ((inquire_all π r ss st k).left.post ≡ []) × ((inquire_all π r ss st k).made ≤ k + 3 * length ss)

@@ -2,14 +2,12 @@
 use Rattle.std.proofs.Common.{◌≡◌, ℕ, cond, eqb, ltb, List, [], ◌∷◌, ◌++◌, length, take, sym, refl, ◌∙◌, subst, arith}
 use Rattle.std.proofs.lemmas.Bool.Decides.{nat_tests}
 use Rattle.std.proofs.lemmas.Bool.{cond_both, eqb-true}
-use Rattle.assurance.proofs.Ideal.{Station, MessageKind, Run, at_station, written_station, forced_station, cut_station, set_coordinator, set_subordinate, Act, write, force, send, installed, dropped, act_done, acts_done, Turn, stay, to_coordinator, to_subordinate, turn, step, send_each}
+use Rattle.assurance.proofs.Ideal.{Station, MessageKind, Run, at_station, written_station, forced_station, cut_station, set_coordinator, set_subordinate, Act, write, force, act_done, acts_done, Turn, stay, to_coordinator, to_subordinate, turn, step, send_each}
 
 abbrev pub local : Act → Station → Station
 local (write x) y = written_station x y
 local force y = forced_station y
-local (send m) y = y
-local (installed r) y = y
-local (dropped r) y = y
+local a y = y
 
 abbrev pub locals : List Act → Station → Station
 locals [] y = y
@@ -23,9 +21,7 @@ turned_station (to_subordinate r e) y = set_subordinate r e y
 pub at_act : (s t : ℕ) (a : Act) (st : Run) → (act_done s a st).station t ≡ cond (eqb s t) (local a (st.station s)) (st.station t)
 at_act s t (write x) st = refl
 at_act s t force st = refl
-at_act s t (send m) st = grind (arith, nat_tests)
-at_act s t (installed r) st = grind (arith, nat_tests)
-at_act s t (dropped r) st = grind (arith, nat_tests)
+at_act s t a st = grind (arith, nat_tests)
 
 pub at_acts : (s t : ℕ) (l : List Act) (st : Run) → (acts_done s l st).station t ≡ cond (eqb s t) (locals l (st.station s)) (st.station t)
 at_acts s t [] st = grind (arith, nat_tests)
@@ -58,9 +54,7 @@ pub same_locals : (l : List Act) (y : Station) → ((locals l y).power ≡ y.pow
 same_locals [] y = (refl, refl, refl)
 same_locals (write x ∷ l) y = same_locals l (written_station x y)
 same_locals (force ∷ l) y = same_locals l (forced_station y)
-same_locals (send m ∷ l) y = same_locals l y
-same_locals (installed r ∷ l) y = same_locals l y
-same_locals (dropped r ∷ l) y = same_locals l y
+same_locals (a ∷ l) y = same_locals l y
 
 pub locals_append : (l m : List Act) (y : Station) → locals (l ++ m) y ≡ locals m (locals l y)
 locals_append [] m y = refl
@@ -72,16 +66,12 @@ locals_send k r s (t ∷ ts) y = locals_send k r s ts y
 
 pub turned_power : (tn : Turn) (y : Station) → (turned_station tn y).power ≡ y.power
 turned_power stay y = refl
-turned_power (to_coordinator r e) y = refl
-turned_power (to_subordinate r e) y = refl
+turned_power tn y = refl
 
 -- no act and no turn changes which revisions there are
 plan_act : (s : ℕ) (a : Act) (st : Run) → ((act_done s a st).plan ≡ st.plan) × ((act_done s a st).count ≡ st.count)
 plan_act s (write x) st = (refl, refl)
-plan_act s force st = (refl, refl)
-plan_act s (send m) st = (refl, refl)
-plan_act s (installed r) st = (refl, refl)
-plan_act s (dropped r) st = (refl, refl)
+plan_act s a st = (refl, refl)
 
 pub plan_acts : (s : ℕ) (l : List Act) (st : Run) → ((acts_done s l st).plan ≡ st.plan) × ((acts_done s l st).count ≡ st.count)
 plan_acts s [] st = (refl, refl)
@@ -89,8 +79,7 @@ plan_acts s (a ∷ l) st = let h = plan_act s a st in let k = plan_acts s l (act
 
 pub plan_turn : (s : ℕ) (tn : Turn) (st : Run) → ((turn s tn st).plan ≡ st.plan) × ((turn s tn st).count ≡ st.count)
 plan_turn s stay st = (refl, refl)
-plan_turn s (to_coordinator r e) st = (refl, refl)
-plan_turn s (to_subordinate r e) st = (refl, refl)
+plan_turn s tn st = (refl, refl)
 
 pub plan_step : (s : ℕ) (l : List Act) (tn : Turn) (f k : ℕ) (st : Run) → ((step s l tn f k st).plan ≡ st.plan) × ((step s l tn f k st).count ≡ st.count)
 plan_step s l tn f k st =

@@ -160,19 +160,15 @@ logged_acts : (π : Answers) (c s r : ℕ) (x : Step) → r < c → AllByRecursi
 logged_acts π c s r step.Rest h = tt
 logged_acts π c s r (step.OpenVote x) h = All-append (Logged 0 c) (if_so π.opens (write (line kind.Opening r x.bits) ∷ force ∷ [])) _ (logged_if c π.opens _ (tt, (tt, tt))) (logged_each c message.Prepare r s (members x))
 logged_acts π c s r (step.Prepare d t) h = (tt, (tt, (tt, tt)))
-logged_acts π c s r (step.RepeatYes v t) h = (tt, tt)
-logged_acts π c s r (step.VoteNo t) h = (tt, tt)
 logged_acts π c s r (step.DecideCommit x) h = (tt, (tt, logged_each c message.Commit r s (members x)))
 logged_acts π c s r (step.DecideAbort x y) h =
     All-append (Logged 0 c) (logged π.abort_logging (line kind.Abort r x.bits)) _ (logged_log c π.abort_logging _)
     (All-append (Logged 0 c) (post_each message.Abort r s y) _ (logged_each c message.Abort r s (members y)) (logged_if c (π.acknowledges outcome.Abort && empty y) _ (tt, tt)))
 logged_acts π c s r (step.Enforce o d) h = (logged_mark c o r h, (tt, All-append (Logged 0 c) (if_so (π.forces o) (force ∷ [])) _ (logged_if c (π.forces o) _ (tt, tt)) (logged_if c (π.acknowledges o) _ (tt, tt))))
 logged_acts π c s r (step.Acknowledge o t) h = logged_if c (π.acknowledges o) _ (tt, tt)
-logged_acts π c s r step.End h = (tt, tt)
-logged_acts π c s r (step.Tell k t) h = (tt, tt)
 logged_acts π c s r (step.Chase k w) h = logged_each c (telling k.outcome) r s (members w)
-logged_acts π c s r (step.Inquire d) h = (tt, tt)
 logged_acts π c s r (step.Reject d) h = (h, (tt, logged_if c (π.forces outcome.Abort) _ (tt, tt)))
+logged_acts π c s r z h = (tt, tt)
 
 -- a turn that changes nothing
 same_co : (n s r : ℕ) (st : State) → ideal.turn s (ideal.to_coordinator r (((view n st).station s).coordinators r)) (view n st) ≡ view n st

@@ -4,13 +4,13 @@ use Rattle.std.specs.List.{AllByRecursion, range_with_len}
 use Rattle.std.proofs.ByRecursion.{All-push, kept_by_passes}
 use Rattle.std.proofs.lemmas.Bool.Decides.{nat_tests}
 use Rattle.std.proofs.lemmas.Bool.{cond_both, cond-true, cond-false, cases_Bool, true≢false, eqb-true, eq-eqb, and_parts, not-true, ltb-true}
-use Rattle.assurance.proofs.Ideal.{updated, in_set, with_station, members, kI, commit, CoordinatorEntry, none, Open, Collecting, Announcing, SubordinateEntry, idle, Active, Prepared, Station, MessageKind, PREPARE, YES, NO, COMMIT, ABORT, ACK, INQUIRY, Message, Plan, Run, Presumption, at_station, set_coordinator, set_subordinate, with_message, marked_installed, marked_dropped, with_post, Act, write, force, send, installed, dropped, act_done, acts_done, to_coordinator, to_subordinate, turn, step, line, letter, send_each, await, close_acts, commit_acts, prepare_acts, upon_prepare, upon_yes, upon_close, upon_inquire, handed, upon_open, open_revision, close, load, all_powered, hand_first, drain, emptied, nudge, urged, asked, inquire_all, revise, revise_all, settled, fits, call, calls}
+use Rattle.assurance.proofs.Ideal.{updated, in_set, with_station, members, kI, commit, CoordinatorEntry, none, Open, Collecting, Announcing, SubordinateEntry, idle, Active, Prepared, Station, MessageKind, PREPARE, YES, COMMIT, ABORT, ACK, Message, Plan, Run, Presumption, at_station, set_coordinator, set_subordinate, with_message, marked_installed, marked_dropped, with_post, Act, write, force, send, installed, dropped, act_done, acts_done, to_coordinator, to_subordinate, turn, step, line, letter, send_each, await, close_acts, commit_acts, prepare_acts, upon_prepare, upon_yes, upon_close, upon_inquire, handed, upon_open, open_revision, close, load, all_powered, hand_first, drain, emptied, nudge, urged, asked, inquire_all, revise, revise_all, settled, fits, call, calls}
 use Rattle.assurance.proofs.Lasting.{world, CoLegal}
 use Rattle.assurance.proofs.Sets.{mem_add, mem_zero, add_self, add_keeps, mem_below, mem_ext}
 use Rattle.assurance.proofs.Claims.{Laws, new, up}
 use Rattle.assurance.proofs.SafeActs.{SafeSt, upd_same}
 use Rattle.assurance.proofs.Invariant.{Inv, inv_first}
-use Rattle.assurance.proofs.Rules.{Rule, vote, again, refuse, joins, decide, drop, enforce, confirm, less, finish, answer, start, deny, press, asks, acts_of, turn_of, For, Did, by_did, did_handed, whole, few_members}
+use Rattle.assurance.proofs.Rules.{Rule, vote, decide, start, acts_of, turn_of, For, Did, by_did, did_handed, whole, few_members}
 use Rattle.assurance.proofs.Loads.{empty, load_handed}
 use Rattle.assurance.proofs.Whole.{On, Aside, aside_refl, aside_trans, Sure, Rested, Calm, on_moved, aside_moved, co_moved, sure_moved, co_now, aside_did, on_first, first_on}
 use Rattle.assurance.proofs.UnderWay.{In, in_left, in_last, elem_members, letters, letters_sends, room_post, post_acts, post_turn, CoPend, MildOf, Mild, Tri, mid_first, rest_of, mild_sends, in_sends, told}
@@ -58,11 +58,7 @@ card_zero n = none_kept 0 n
 abbrev pub vweigh : MessageKind → ℕ
 vweigh PREPARE = 4
 vweigh YES = 3
-vweigh NO = 0
-vweigh COMMIT = 0
-vweigh ABORT = 0
-vweigh ACK = 0
-vweigh INQUIRY = 0
+vweigh m = 0
 
 abbrev pub vload : List Message → ℕ
 vload [] = 0
@@ -82,18 +78,13 @@ load_sends n r s (t ∷ ts) = omega (arith, load_sends n r s ts)
 
 abbrev pub Busy : SubordinateEntry → Type 0
 Busy idle = ⊥
-Busy (Active c) = Unit {0}
-Busy (Prepared c) = Unit {0}
+Busy e = Unit {0}
 
 module _ (π : Presumption) (𝓛 : Laws π) (r c all : ℕ) (st0 : Run) (sets : (u : ℕ) → in_set all u ≡ true → u < π.size) where
   abbrev pub VoteOf : MessageKind → ℕ → ℕ → ℕ → Type 0
   VoteOf PREPARE q s t = (q ≡ r) × (s ≡ c) × (in_set all t ≡ true)
   VoteOf YES q s t = (q ≡ r) × (t ≡ c) × (in_set all s ≡ true)
-  VoteOf NO q s t = ⊥
-  VoteOf COMMIT q s t = ⊥
-  VoteOf ABORT q s t = ⊥
-  VoteOf ACK q s t = ⊥
-  VoteOf INQUIRY q s t = ⊥
+  VoteOf m q s t = ⊥
 
   abbrev pub VoteM : Message → Type 0
   VoteM m = VoteOf m.mail m.revision m.from m.to
@@ -130,8 +121,7 @@ module _ (π : Presumption) (𝓛 : Laws π) (r c all : ℕ) (st0 : Run) (sets :
   module _ (s : ℕ) (ms : List Message) (st : Run) where
     prepare_post : (e : SubordinateEntry) → Busy e → length ms < 64 → (upon_prepare π r s c e 255 0 (with_post ms st)).post ≡ ms ++ (letter YES r s c ∷ [])
     prepare_post idle h l = absurd h
-    prepare_post (Active d) h l = room_post (letter YES r s c) (with_post ms st) l
-    prepare_post (Prepared d) h l = room_post (letter YES r s c) (with_post ms st) l
+    prepare_post e h l = room_post (letter YES r s c) (with_post ms st) l
 
     prepare_co : (e : SubordinateEntry) → (t q : ℕ) → Busy e → ((upon_prepare π r s c e 255 0 (with_post ms st)).station t).coordinators q ≡ (st.station t).coordinators q
     prepare_co idle t q h = absurd h
@@ -258,32 +248,16 @@ module _ (π : Presumption) (𝓛 : Laws π) (r c all : ℕ) (st0 : Run) (sets :
 
   calm_rule : (u : Rule) (m : MessageKind) (q : ℕ) → For π u m → (PREPARE ≡ m → ⊥) → Calm (turn_of π u q)
   calm_rule (vote d) m q f n = absurd (n f)
-  calm_rule again m q f n = tt
-  calm_rule refuse m q f n = tt
-  calm_rule (joins a y) m q f n = tt
-  calm_rule (decide a) m q f n = tt
-  calm_rule (drop a d) m q f n = tt
-  calm_rule (enforce o d) m q f n = tt
-  calm_rule (confirm o) m q f n = tt
-  calm_rule (less o w) m q f n = tt
-  calm_rule finish m q f n = tt
-  calm_rule (answer o) m q f n = tt
-  calm_rule (start a) m q f n = tt
-  calm_rule (deny d) m q f n = tt
-  calm_rule (press o w) m q f n = tt
-  calm_rule (asks d) m q f n = tt
+  calm_rule u m q f n = tt
 
   sure_did : (m : MessageKind) → (PREPARE ≡ m → ⊥) → (st : Run) (q s t : ℕ) (v : Run) → Did π st q s t 255 0 (λ u. For π u m) v → (x : ℕ) → Sure ((st.station x).subordinates r) → Sure ((v.station x).subordinates r)
   sure_did m n st q s t v d x h = by_did π (λ (w : Run). Sure ((w.station x).subordinates r)) st q s t 255 0 (λ u. For π u m) v d h (λ u w f. subst (λ (z : Run). Sure ((z.station x).subordinates r)) (sym (whole π 𝓛 u q s t st)) (sure_moved s (acts_of π u q s t) (turn_of π u q) st (calm_rule u m q f n) x r h))
 
   mild_not : (m : MessageKind) (q s t : ℕ) → MildOf r c m q s t → PREPARE ≡ m → ⊥
-  mild_not PREPARE q s t h e = h
-  mild_not YES q s t h e = h
-  mild_not NO q s t h e = h
   mild_not COMMIT q s t h e = grind arith
   mild_not ABORT q s t h e = grind arith
   mild_not ACK q s t h e = grind arith
-  mild_not INQUIRY q s t h e = h
+  mild_not m q s t h e = h
 
   -- a COMMIT leaves its receiver sure
   sure_now : (m : MessageKind) (q s t : ℕ) (st : Run) → COMMIT ≡ m → q ≡ r → Sure (((handed π m q s t 255 0 st).station s).subordinates r)
@@ -312,11 +286,7 @@ module _ (π : Presumption) (𝓛 : Laws π) (r c all : ℕ) (st0 : Run) (sets :
       vote_rev : (k : MessageKind) (q s t : ℕ) → VoteOf k q s t → q ≡ r
       vote_rev PREPARE q s t h = h.0
       vote_rev YES q s t h = h.0
-      vote_rev NO q s t h = absurd h
-      vote_rev COMMIT q s t h = absurd h
-      vote_rev ABORT q s t h = absurd h
-      vote_rev ACK q s t h = absurd h
-      vote_rev INQUIRY q s t h = absurd h
+      vote_rev m q s t h = absurd h
 
       rev_of' : Voting b st ⊎ Telling b st → m.revision ≡ r
       rev_of' (inl v) = let a : AllByRecursion VoteM (m ∷ ms) = subst (AllByRecursion VoteM) (sym e) v.posts in vote_rev m.mail m.revision m.from m.to a.0
@@ -328,11 +298,7 @@ module _ (π : Presumption) (𝓛 : Laws π) (r c all : ℕ) (st0 : Run) (sets :
       voted : (k : MessageKind) (q s t : ℕ) → Voting b (with_post (letter k q t s ∷ ms) st) → VoteOf k q t s → (d : ℕ) × (suc d ≤ b) × (Voting d (handed π k q s t 255 0 (with_post ms st)) ⊎ Telling d (handed π k q s t 255 0 (with_post ms st)))
       voted PREPARE q s t v h = subst (λ (x : ℕ). Out b ms st PREPARE x s t) (sym h.0) (subst (λ (x : ℕ). Out b ms st PREPARE r s x) (sym h.1) (λ v. let q = hand_prepare b s ms st v h.2 in (q.0, q.1, inl q.2))) v
       voted YES q s t v h = subst (λ (x : ℕ). Out b ms st YES x s t) (sym h.0) (subst (λ (x : ℕ). Out b ms st YES r x t) (sym h.1) (λ v. hand_yes b t ms st v g.inv.safe h.2)) v
-      voted NO q s t v h = absurd h
-      voted COMMIT q s t v h = absurd h
-      voted ABORT q s t v h = absurd h
-      voted ACK q s t v h = absurd h
-      voted INQUIRY q s t v h = absurd h
+      voted m q s t v h = absurd h
 
       step_phase : Voting b st ⊎ Telling b st → (d : ℕ) × (suc d ≤ b) × (Voting d (handed π m.mail m.revision m.to m.from 255 0 (with_post ms st)) ⊎ Telling d (handed π m.mail m.revision m.to m.from 255 0 (with_post ms st)))
       step_phase (inl v) = voted m.mail m.revision m.to m.from (over v) (over v).posts.0
@@ -399,18 +365,16 @@ module _ (π : Presumption) (𝓛 : Laws π) (st : Run) (bare : st.post ≡ []) 
   idle_ask r s k h = cond_both (st.station s).power (upon_inquire π r s ((st.station s).subordinates r) 255 0 st) st (λ (v : Run). v ≡ st) (λ _. go ((st.station s).subordinates r) h) (λ _. refl)
     where
       go : (e : SubordinateEntry) → Sure e → upon_inquire π r s e 255 0 st ≡ st
-      go idle h = refl
-      go (Active d) h = refl
       go (Prepared d) h = absurd h
+      go e h = refl
 
   idle_urge : (r : ℕ) → Rested ((st.station (st.plan r).coordinator).coordinators r) → urged π r st ≡ st
   idle_urge r h = cond_both (st.station (st.plan r).coordinator).power (nudge π r (st.plan r).coordinator ((st.station (st.plan r).coordinator).coordinators r) st) st (λ (v : Run). v ≡ st) (λ _. go ((st.station (st.plan r).coordinator).coordinators r) h) (λ _. refl)
     where
       go : (e : CoordinatorEntry) → Rested e → nudge π r (st.plan r).coordinator e st ≡ st
-      go none h = refl
-      go (Open a) h = refl
       go (Collecting a y) h = absurd h
       go (Announcing o w) h = absurd h
+      go e h = refl
 
   idle_asks : (r : ℕ) → ((t : ℕ) → Sure ((st.station t).subordinates r)) → (ss : List ℕ) (k : ℕ) → (inquire_all π r ss st k).made ≡ k
   unfolding inquire_all

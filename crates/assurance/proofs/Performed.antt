@@ -179,19 +179,15 @@ module _ (n : ℕ) where
 
   -- the marks of a list of acts are for logged revisions
   abbrev pub Logged : ℕ → Act → Type 0
-  Logged c (write x) = Unit {0}
-  Logged c force = Unit {0}
-  Logged c (post m) = Unit {0}
   Logged c (mark_installed r) = r < c
   Logged c (mark_dropped r) = r < c
+  Logged c a = Unit {0}
 
   log_kept : (s : ℕ) (a : Act) (w : Store) → length (done s a w).log ≡ length w.log
   unfolding done
-  log_kept s (write x) w = refl
-  log_kept s force w = refl
-  log_kept s (post m) w = refl
   log_kept s (mark_installed r) w = length-set w.log r _
   log_kept s (mark_dropped r) w = length-set w.log r _
+  log_kept s a w = refl
 
   can : (s : ℕ) (a : Act) (l : List Act) (st : State) → Logged (length st.store.log) a → records (locals (map act_as (a ∷ l)) ((view n st).station s)) ≤ 160 → Can st s a
   can s (write x) l st g h =
@@ -204,10 +200,7 @@ module _ (n : ℕ) where
 
   accepts : (s : ℕ) (a : Act) (st : State) → s < n → Shape n st → Can st s a → Accepts s a st.store
   accepts s (write x) st h k c = answers_0 st.store.journal s (omega (arith, k.journals)) (omega (arith, k.wide s h))
-  accepts s force st h k c = tt
-  accepts s (post m) st h k c = tt
-  accepts s (mark_installed r) st h k c = tt
-  accepts s (mark_dropped r) st h k c = tt
+  accepts s a st h k c = tt
 
   -- a list of acts, every write of which is accepted
   pub acts_view : (s : ℕ) (l : List Act) (st : State) → s < n → Shape n st → AllByRecursion (Logged (length st.store.log)) l → records (locals (map act_as l) ((view n st).station s)) ≤ 160

@@ -49,15 +49,13 @@ module _ (π : Answers) where
   drains x = delivers (load 8 x.state.store.post) x
 
   urges : (e : CoordinatorEntry) (r : ℕ) (st : State) → Leads st (urged π e r st)
-  urges coordinator.None r st = stays st
-  urges (coordinator.Open a) r st = stays st
   urges (coordinator.Collecting a y) r st = by_call (GiveUp r 255 0) tt st
   urges (coordinator.Announcing o w) r st = by_call (Chase r 255 0) tt st
+  urges e r st = stays st
 
   inquires : (e : SubordinateEntry) (r s : ℕ) (st : State) → Leads st (inquired π e r s st)
-  inquires subordinate.None r s st = stays st
-  inquires (subordinate.Active c) r s st = stays st
   inquires (subordinate.Prepared c) r s st = by_call (Inquire r s 255 0) tt st
+  inquires e r s st = stays st
 
   -- a progress, then the post emptied
   then_drains : (x y : Progress) → Leads x.state y.state → Leads x.state (drained π y).state

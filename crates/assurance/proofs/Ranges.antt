@@ -10,7 +10,7 @@ use Rattle.assurance.proofs.Sets.{add_self, add_keeps}
 use Rattle.assurance.proofs.Claims.{Laws}
 use Rattle.assurance.proofs.SafeActs.{SafeSt}
 use Rattle.assurance.proofs.SafeRules.{Has, is_that}
-use Rattle.assurance.proofs.Rules.{Rule, vote, again, refuse, joins, decide, drop, enforce, confirm, less, finish, answer, start, deny, press, asks, acts_of, turn_of, Why, Did, by_did, members_below}
+use Rattle.assurance.proofs.Rules.{Rule, vote, joins, decide, drop, enforce, confirm, less, finish, start, deny, press, asks, acts_of, turn_of, Why, Did, by_did, members_below}
 
 -- stations in range
 abbrev pub NearM : ℕ → Message → Type 0
@@ -23,11 +23,8 @@ pub record Near (n : ℕ) (st : Run) : Type 0 where
   pub far : (s : ℕ) → n ≤ s → (st.station s).power ≡ true
 
 abbrev pub NearA : ℕ → Act → Type 0
-NearA n (write x) = Unit {0}
-NearA n force = Unit {0}
 NearA n (send m) = NearM n m
-NearA n (installed r) = Unit {0}
-NearA n (dropped r) = Unit {0}
+NearA n a = Unit {0}
 
 near_act : (n s : ℕ) (a : Act) (st : Run) → NearA n a → Near n st → Near n (act_done s a st)
 near_act n s (write x) st k h = record { posts = h.posts; plans = h.plans; sets = h.sets; far = λ t l. grind (arith, nat_tests, h.far t) }
@@ -75,8 +72,6 @@ module _ (π : Presumption) (𝓛 : Laws π) where
 
   near_rule : (u : Rule) (r s t : ℕ) (st : Run) → SafeSt π st → Near π.size st → s < π.size → t < π.size → Why π (st.station s) r t u → AllByRecursion (NearA π.size) (acts_of π u r s t)
   near_rule (vote c) r s t st h n i j w = (tt, (tt, ((i, j), tt)))
-  near_rule again r s t st h n i j w = ((i, j), tt)
-  near_rule refuse r s t st h n i j w = ((i, j), tt)
   near_rule (joins all ys) r s t st h n i j w = tt
   near_rule (decide all) r s t st h n i j w = (tt, (tt, near_sends π.size COMMIT r s (members π.size all) i (members_below π.size all)))
   near_rule (drop all d) r s t st h n i j w = All-append _ (logged (π.logs all) (line kA r all)) _ (near_log (π.logs all) (line kA r all)) (All-append _ (send_each ABORT r s (members π.size d)) _ (near_sends π.size ABORT r s (members π.size d) i (members_below π.size d)) (near_end r all d))
@@ -91,11 +86,11 @@ module _ (π : Presumption) (𝓛 : Laws π) where
   near_rule (confirm o) r s t st h n i j w = near_tail false (π.acks o s) r s t i j
   near_rule (less o v) r s t st h n i j w = tt
   near_rule finish r s t st h n i j w = (tt, tt)
-  near_rule (answer o) r s t st h n i j w = ((i, j), tt)
   near_rule (start all) r s t st h n i j w = cond_both (π.opens all) (write (line kI r all) ∷ (force ∷ send_each PREPARE r s (members π.size all))) (send_each PREPARE r s (members π.size all)) (AllByRecursion (NearA π.size)) (λ _. (tt, (tt, near_sends π.size PREPARE r s (members π.size all) i (members_below π.size all)))) (λ _. near_sends π.size PREPARE r s (members π.size all) i (members_below π.size all))
   near_rule (deny c) r s t st h n i j w = (tt, (tt, near_tail (π.forces abort s) false r s s i i))
   near_rule (press o v) r s t st h n i j w = near_sends π.size (outcome_mail o) r s (members π.size v) i (members_below π.size v)
   near_rule (asks c) r s t st h n i j w = ((i, rw (subst (λ v. SubLegal π (world st) s r v) w (h.subs s r)).1 (n.plans r)), tt)
+  near_rule u r s t st h n i j w = ((i, j), tt)
 
   pub near_did : (st : Run) (r s t f k : ℕ) (P : Rule → Type 0) (v : Run) → SafeSt π st → s < π.size → t < π.size → Did π st r s t f k P v → Near π.size st → Near π.size v
   near_did st r s t f k P v h i j d n = by_did π (Near π.size) st r s t f k P v d n (λ u w _. near_step π.size s (acts_of π u r s t) (turn_of π u r) f k st i (near_rule u r s t st h n i j w) n)
@@ -106,10 +101,7 @@ Marked st = (s r : ℕ) → Has kc r (st.station s) → in_set (st.installed_at 
 
 abbrev MarkA : ℕ → Act → Run → Type 0
 MarkA s (write x) st = (r : ℕ) → is kc r x ≡ true → in_set (st.installed_at r) s ≡ true
-MarkA s force st = Unit {0}
-MarkA s (send m) st = Unit {0}
-MarkA s (installed r) st = Unit {0}
-MarkA s (dropped r) st = Unit {0}
+MarkA s a st = Unit {0}
 
 abbrev Marks : ℕ → List Act → Run → Type 0
 Marks s [] st = Unit {0}
@@ -156,10 +148,7 @@ marked_step s l tn f k st m h =
 
 abbrev Plain : Act → Type 0
 Plain (write x) = (r : ℕ) → is kc r x ≡ false
-Plain force = Unit {0}
-Plain (send m) = Unit {0}
-Plain (installed r) = Unit {0}
-Plain (dropped r) = Unit {0}
+Plain a = Unit {0}
 
 plain_marks : (s : ℕ) (l : List Act) (st : Run) → AllByRecursion Plain l → Marks s l st
 plain_marks s [] st h = tt
@@ -190,8 +179,6 @@ module _ (π : Presumption) (𝓛 : Laws π) where
 
   marks_rule : (u : Rule) (r s t : ℕ) (st : Run) → Marks s (acts_of π u r s t) st
   marks_rule (vote c) r s t st = plain_marks s (prepare_acts π r s t c) st (λ _. refl, (tt, (tt, tt)))
-  marks_rule again r s t st = (tt, tt)
-  marks_rule refuse r s t st = (tt, tt)
   marks_rule (joins all ys) r s t st = tt
   marks_rule (decide all) r s t st = plain_marks s (commit_acts π r s all) st (λ _. refl, (tt, plain_sends COMMIT r s (members π.size all)))
   marks_rule (drop all d) r s t st = plain_marks s (abort_acts π r s all d) st (All-append _ (logged (π.logs all) (line kA r all)) _ (plain_log (π.logs all) r all) (All-append _ (send_each ABORT r s (members π.size d)) _ (plain_sends ABORT r s (members π.size d)) (plain_end r all d)))
@@ -203,11 +190,10 @@ module _ (π : Presumption) (𝓛 : Laws π) where
   marks_rule (confirm o) r s t st = plain_marks s (ack_if π (π.acks o s) r s t) st (plain_tail false (π.acks o s) r s t)
   marks_rule (less o w) r s t st = tt
   marks_rule finish r s t st = plain_marks s (write (line kE r 0) ∷ []) st (λ _. refl, tt)
-  marks_rule (answer o) r s t st = (tt, tt)
   marks_rule (start all) r s t st = plain_marks s (close_acts π r s all) st (cond_both (π.opens all) (write (line kI r all) ∷ (force ∷ send_each PREPARE r s (members π.size all))) (send_each PREPARE r s (members π.size all)) (AllByRecursion Plain) (λ _. (λ _. refl, (tt, plain_sends PREPARE r s (members π.size all)))) (λ _. plain_sends PREPARE r s (members π.size all)))
   marks_rule (deny c) r s t st = plain_marks s (reject_acts π r s c) st (tt, (λ _. refl, plain_tail (π.forces abort s) false r s s))
   marks_rule (press o w) r s t st = plain_marks s (send_each (outcome_mail o) r s (members π.size w)) st (plain_sends (outcome_mail o) r s (members π.size w))
-  marks_rule (asks c) r s t st = (tt, tt)
+  marks_rule u r s t st = (tt, tt)
 
   pub marked_did : (st : Run) (r s t f k : ℕ) (P : Rule → Type 0) (v : Run) → Did π st r s t f k P v → Marked st → Marked v
   marked_did st r s t f k P v d h = by_did π Marked st r s t f k P v d h (λ u w _. marked_step s (acts_of π u r s t) (turn_of π u r) f k st (marks_rule u r s t st) h)
@@ -223,8 +209,7 @@ module _ (π : Presumption) (𝓛 : Laws π) where
 
   drp_turn : (s : ℕ) (tn : Turn) (st : Run) → (turn s tn st).dropped_at ≡ st.dropped_at
   drp_turn s stay st = refl
-  drp_turn s (to_coordinator r e) st = refl
-  drp_turn s (to_subordinate r e) st = refl
+  drp_turn s tn st = refl
 
   pub drp_did : (q x : ℕ) (st : Run) (r s t f k : ℕ) (P : Rule → Type 0) (v : Run) → Did π st r s t f k P v → in_set (st.dropped_at q) x ≡ true → in_set (v.dropped_at q) x ≡ true
   drp_did q x st r s t f k P v d h =

@@ -15,9 +15,7 @@ Has k r x = (has k r x.stable ≡ true) ⊎ (has k r x.loose ≡ true)
 
 abbrev pub IsNone : CoordinatorEntry → Type 0
 IsNone none = Unit {0}
-IsNone (Open a) = ⊥
-IsNone (Collecting a y) = ⊥
-IsNone (Announcing o w) = ⊥
+IsNone e = ⊥
 
 -- who awaits somebody, or nobody, has decided
 pub past_await : (o : Outcome) (a : ℕ) → Past (await o a)
@@ -48,12 +46,7 @@ decode (suc (suc (suc (suc (suc (suc n)))))) = ka
 
 decode_code : (k : Kind) → decode (code k) ≡ k
 decode_code kI = refl
-decode_code kC = refl
-decode_code kA = refl
-decode_code kE = refl
-decode_code kp = refl
-decode_code kc = refl
-decode_code ka = refl
+decode_code k = refl
 
 pub is_that : (k : Kind) (r : ℕ) (x : Record) → is k r x ≡ true → (x.kind ≡ k) × (x.revision ≡ r)
 is_that k r x h = let b = and_parts _ _ h in (sym (decode_code x.kind) ∙ (ap decode (eqb-true _ _ b.0) ∙ decode_code k), eqb-true _ _ b.1)
@@ -101,16 +94,12 @@ module _ (π : Presumption) where
   pub ready_act : (s : ℕ) (a : Act) (st : Run) → Ready (world st) s a → Grow (world st) (world (act_done s a st))
   ready_act s (write x) st h = grow_in π st s (written_station x) (keeps_write st.count x (st.station s) (λ r _ _. h.0 r) (λ r _ _. h.1 r))
   ready_act s force st h = grow_in π st s forced_station (keeps_force st.count (st.station s))
-  ready_act s (send m) st h = grow_refl (world st)
-  ready_act s (installed r) st h = grow_refl (world st)
-  ready_act s (dropped r) st h = grow_refl (world st)
+  ready_act s a st h = grow_refl (world st)
 
   ready_ok : (s : ℕ) (a : Act) (st : Run) → Ready (world st) s a → OkAct π s a st
   ready_ok s (write x) st h = (λ r _ _. h.0 r, λ r _ _. h.1 r, h.2)
   ready_ok s force st h = tt
-  ready_ok s (send m) st h = h
-  ready_ok s (installed r) st h = h
-  ready_ok s (dropped r) st h = h
+  ready_ok s a st h = h
 
   pub ready_oks : (s : ℕ) (l : List Act) (st : Run) → AllByRecursion (Ready (world st) s) l → Oks π s l st
   ready_oks s [] st h = tt
@@ -172,9 +161,6 @@ module _ (π : Presumption) (𝓛 : Laws π) where
   asked_less o r t w v h z = (λ e. true≢false (sym (eq-eqb _ _ e) ∙ z), λ u m. h.1 u (del_back w t u m))
 
   pub safe_ack : (r s t : ℕ) (e : CoordinatorEntry) (f k : ℕ) (st : Run) → SafeSt π st → Settled r (st.station t) → (st.station s).coordinators r ≡ e → SafeSt π (upon_ack π r s t e f k st)
-  safe_ack r s t none f k st h l e = h
-  safe_ack r s t (Open a) f k st h l e = h
-  safe_ack r s t (Collecting a ys) f k st h l e = h
   safe_ack r s t (Announcing commit w) f k st h l e =
       let c = subst (λ v. CoLegal π (world st) s r v) e (h.cos s r) in
       cond_both (in_set w t) _ st (SafeSt π)
@@ -189,6 +175,7 @@ module _ (π : Presumption) (𝓛 : Laws π) where
       (λ z. safe_step π s (write (line kE r 0) ∷ []) (to_coordinator r none) f k st h ((λ _ _ _. refl, λ _ _ _. refl, (c.0, (c.1, inr (c.2, ended_all abort r t w (world st) c.3 l (eqb-true _ _ z))))), tt) (λ h'. safe_co_old π _ s h' r none (λ _. tt) tt tt))
       (λ z. safe_co_old π st s h r (Announcing abort (without_station w t)) (λ _. tt) tt (c.0, c.1, c.2, heard_less abort r t w (world st) c.3 l, asked_less abort r t w (world st) c.4 z)))
       (λ _. h)
+  safe_ack r s t x f k st h l e = h
 
   -- an outcome at a station with no entry: what it has there is stable
   quiet : (o : Outcome) (r s : ℕ) (st : Run) → SafeSt π st → TidyS π st.plan s (st.station s) → (st.station s).power ≡ true → Idle ((st.station s).subordinates r) → π.acks o s ≡ true → ((Comm (world st) r × (o ≡ commit)) ⊎ (Abort (world st) r × (o ≡ abort))) ⊎ Settled r (st.station s) → Settled r (st.station s)
@@ -260,12 +247,7 @@ module _ (π : Presumption) (𝓛 : Laws π) where
 
 pub is_own : (k : Kind) (r a : ℕ) → is k r (line k r a) ≡ true
 is_own kI r a = eq-eqb r r refl
-is_own kC r a = eq-eqb r r refl
-is_own kA r a = eq-eqb r r refl
-is_own kE r a = eq-eqb r r refl
-is_own kp r a = eq-eqb r r refl
-is_own kc r a = eq-eqb r r refl
-is_own ka r a = eq-eqb r r refl
+is_own k r a = eq-eqb r r refl
 
 pub written_got : (k : Kind) (r a : ℕ) (l : List Record) → has k r (l ++ (line k r a ∷ [])) ≡ true
 written_got k r a l = has_append k r l (line k r a ∷ []) ∙ or_right _ _ (or_left _ _ (is_own k r a))
@@ -359,19 +341,15 @@ module _ (π : Presumption) (𝓛 : Laws π) where
 
   -- give up, and NO
   pub safe_give_up : (r s : ℕ) (e : CoordinatorEntry) (f k : ℕ) (st : Run) → SafeSt π st → TidyS π st.plan s (st.station s) → (st.station s).coordinators r ≡ e → SafeSt π (upon_give_up π r s e f k st)
-  safe_give_up r s none f k st h y e = h
-  safe_give_up r s (Announcing o w) f k st h y e = h
   safe_give_up r s (Open all) f k st h y e =
       let c = subst (λ v. CoLegal π (world st) s r v) e (h.cos s r) in
       safe_decide π 𝓛 r s all all f k st h c.0 c.1 c.2 (y.live r (λ i. rw e at i)) (λ t m a. inl (rw c.2 m)) (λ t m. m)
   safe_give_up r s (Collecting all ys) f k st h y e =
       let c = subst (λ v. CoLegal π (world st) s r v) e (h.cos s r) in
       safe_decide π 𝓛 r s all all f k st h c.0 c.1 c.2 (y.live r (λ i. rw e at i)) (λ t m a. inl (rw c.2 m)) (λ t m. m)
+  safe_give_up r s x f k st h y e = h
 
   pub safe_no : (r s t : ℕ) (e : CoordinatorEntry) (f k : ℕ) (st : Run) → SafeSt π st → TidyS π st.plan s (st.station s) → Legal π (world st) (letter NO r t s) → (st.station s).coordinators r ≡ e → SafeSt π (upon_no π r s t e f k st)
-  safe_no r s t none f k st h y l e = h
-  safe_no r s t (Announcing o w) f k st h y l e = h
-  safe_no r s t (Open all) f k st h y l e = h
   safe_no r s t (Collecting all ys) f k st h y l e =
       let c = subst (λ v. CoLegal π (world st) s r v) e (h.cos s r) in
       let n = y.live r (λ i. rw e at i) in
@@ -382,11 +360,10 @@ module _ (π : Presumption) (𝓛 : Laws π) where
         | inr i ↦ inr (elim l.1 [ inl q ↦ rw i at (q (rw i a)) | inr q ↦ absurd (true≢false (sym (rw c.1 q) ∙ n.0)) ])
       ]) (del_back all t))
       (λ _. h)
+  safe_no r s t x f k st h y l e = h
 
   -- reject
   pub safe_reject : (r s : ℕ) (e : SubordinateEntry) (f k : ℕ) (st : Run) → SafeSt π st → TidyS π st.plan s (st.station s) → (st.station s).subordinates r ≡ e → SafeSt π (upon_reject π r s e f k st)
-  safe_reject r s idle f k st h y e = h
-  safe_reject r s (Prepared c) f k st h y e = h
   safe_reject r s (Active c) f k st h y e =
       let q = subst (λ v. SubLegal π (world st) s r v) e (h.subs s r) in
       let v : Veto r ((at_station s (set_subordinate r idle) st).station s) = rw (here_in s (set_subordinate r idle) st) (y.fresh r (λ i. rw e at i), rw (upd_same (st.station s).subordinates r idle) tt) in
@@ -396,3 +373,4 @@ module _ (π : Presumption) (𝓛 : Laws π) where
       tail : (b : Bool) (u : Run) → Oks π s (force_if π b []) u
       tail true u = (tt, tt)
       tail false u = tt
+  safe_reject r s x f k st h y e = h

@@ -7,7 +7,7 @@ use Rattle.assurance.proofs.Lasting.{has_append, No, Past, Inactive, Idle, world
 use Rattle.assurance.proofs.Sets.{mem_zero}
 use Rattle.assurance.proofs.Claims.{Laws}
 use Rattle.assurance.proofs.Local.{locals, turned_station, locals_append, locals_send, step_at, plan_step}
-use Rattle.assurance.proofs.Rules.{Rule, vote, again, refuse, joins, decide, drop, enforce, confirm, less, finish, answer, start, deny, press, asks, acts_of, turn_of, Why, Did, by_did}
+use Rattle.assurance.proofs.Rules.{Rule, vote, joins, decide, drop, enforce, confirm, less, finish, start, deny, press, acts_of, turn_of, Why, Did, by_did}
 use Rattle.assurance.proofs.SafeActs.{SafeSt, upd_same}
 use Rattle.assurance.proofs.SafeRules.{Has, IsNone, TidyS, past_await, written_got, forced_got}
 
@@ -177,8 +177,6 @@ module _ (π : Presumption) (𝓛 : Laws π) (P : ℕ → Plan) (s : ℕ) where
   tidy_rule (vote c) r t y w on whole h =
       let e = upd_same y.subordinates r (Prepared c) in
       tidy_put π P s kp r c (set_subordinate r (Prepared c) y) refl (λ _. (subst Inactive (sym e) tt, λ i. subst Idle e i)) (λ z. absurd (false≢true z)) (tidy_sub π P s r (Prepared c) y tt (λ i. absurd i) h)
-  tidy_rule again r t y w on whole h = h
-  tidy_rule refuse r t y w on whole h = h
   tidy_rule (joins all ys) r t y w on whole h = tidy_co π P s r (Collecting all ys) y (λ _. h.live r (λ p. rw w.1 at p)) (λ i. absurd i) h
   tidy_rule (decide all) r t y w on whole h =
       subst (λ (x : Station). TidyS π P s (set_coordinator r (await commit (π.ackers commit all)) x)) (sym (locals_send COMMIT r s (members π.size all) (forced_station (written_station (line kC r all) y))))
@@ -193,7 +191,6 @@ module _ (π : Presumption) (𝓛 : Laws π) (P : ℕ → Plan) (s : ℕ) where
   tidy_rule (confirm o) r t y w on whole h = subst (TidyS π P s) (sym (acked (π.acks o s) r t y)) h
   tidy_rule (less o a) r t y w on whole h = tidy_co π P s r (Announcing o a) y (λ b. absurd (b tt)) (λ i. absurd i) h
   tidy_rule finish r t y w on whole h = tidy_co π P s r none (written_station (line kE r 0) y) (λ b. absurd (b tt)) (λ _. inl (inr (written_got kE r 0 y.loose))) (noted kE r 0 y on (inr refl) h)
-  tidy_rule (answer o) r t y w on whole h = h
   tidy_rule (start all) r t y w on whole h =
       cond_both (π.opens all) (write (line kI r all) ∷ (force ∷ send_each PREPARE r s (members π.size all))) (send_each PREPARE r s (members π.size all)) (λ (l : List Act). TidyS π P s (set_coordinator r (Collecting all 0) (locals l y)))
       (λ _. subst (λ (x : Station). TidyS π P s (set_coordinator r (Collecting all 0) x)) (sym (locals_send PREPARE r s (members π.size all) (forced_station (written_station (line kI r all) y))))
@@ -204,7 +201,7 @@ module _ (π : Presumption) (𝓛 : Laws π) (P : ℕ → Plan) (s : ℕ) where
       collecting = tidy_co π P s r (Collecting all 0) y (λ _. h.live r (λ p. rw w at p)) (λ i. absurd i) h
   tidy_rule (deny c) r t y w on whole h = enforced abort r c (π.forces abort s) false c y refl on h
   tidy_rule (press o a) r t y w on whole h = subst (TidyS π P s) (sym (locals_send (outcome_mail o) r s (members π.size a) y)) h
-  tidy_rule (asks c) r t y w on whole h = h
+  tidy_rule u r t y w on whole h = h
 
 -- every station of a run
 module _ (π : Presumption) (𝓛 : Laws π) where
