@@ -1,8 +1,9 @@
 -- What acts, turns and whole steps leave at each station.
-use Rattle.std.proofs.Common.{◌≡◌, ℕ, cond, eqb, ltb, List, [], ◌∷◌, ◌++◌, length, take, sym, refl, ◌∙◌, subst, arith}
+use Rattle.std.proofs.Common.{◌≡◌, ℕ, cond, eqb, ltb, List, [], ◌∷◌, ◌++◌, length, take, sym, refl, ◌∙◌, subst, arith, zero, suc}
 use Rattle.std.proofs.lemmas.Bool.Decides.{nat_tests}
 use Rattle.std.proofs.lemmas.Bool.{cond_both, eqb-true}
 use Rattle.assurance.proofs.Ideal.{Station, MessageKind, Run, at_station, written_station, forced_station, cut_station, set_coordinator, set_subordinate, Act, write, force, act_done, acts_done, Turn, stay, to_coordinator, to_subordinate, turn, step, send_each}
+use Rattle.std.specs.List.{AllByRecursion}
 
 abbrev pub local : Act → Station → Station
 local (write x) y = written_station x y
@@ -68,6 +69,43 @@ pub turned_power : (tn : Turn) (y : Station) → (turned_station tn y).power ≡
 turned_power stay y = refl
 turned_power tn y = refl
 
+-- a condition on each act, in the run in which it is done
+abbrev pub Along : (Act → Run → Type 0) → ℕ → List Act → Run → Type 0
+Along C s [] st = Unit {0}
+Along C s (a ∷ l) st = C a st × Along C s l (act_done s a st)
+
+module _ (C : Act → Run → Type 0) (s : ℕ) where
+  pub along_take : (n : ℕ) (l : List Act) (st : Run) → Along C s l st → Along C s (take n l) st
+  along_take zero l st h = tt
+  along_take (suc n) [] st h = tt
+  along_take (suc n) (a ∷ l) st h = (h.0, along_take n l (act_done s a st) h.1)
+
+  pub along_all : (P : Act → Type 0) → ((a : Act) (st : Run) → P a → C a st) → (l : List Act) (st : Run) → AllByRecursion P l → Along C s l st
+  along_all P f [] st h = tt
+  along_all P f (a ∷ l) st h = (f a st h.0, along_all P f l (act_done s a st) h.1)
+
+  -- what each such act keeps, all of them keep, and a step too, if changes of the station keep it
+  module _ (Q : Run → Type 0) (each : (a : Act) (st : Run) → C a st → Q st → Q (act_done s a st)) where
+    pub acts_keep : (l : List Act) (st : Run) → Along C s l st → Q st → Q (acts_done s l st)
+    acts_keep [] st c q = q
+    acts_keep (a ∷ l) st c q = acts_keep l (act_done s a st) c.1 (each a st c.0 q)
+
+    pub step_keeps : ((g : Station → Station) (st : Run) → Q st → Q (at_station s g st)) → (l : List Act) (tn : Turn) (f k : ℕ) (st : Run) → Along C s l st → Q st → Q (step s l tn f k st)
+    step_keeps at l tn f k st c q =
+        cond_both (ltb f (length l)) (at_station s (cut_station k) (acts_done s (take f l) st)) (turn s tn (acts_done s l st)) Q
+        (λ _. at (cut_station k) (acts_done s (take f l) st) (acts_keep (take f l) st (along_take f l st c) q))
+        (λ _. turned tn (acts_done s l st) (acts_keep l st c q))
+      where
+        turned : (tn : Turn) (st : Run) → Q st → Q (turn s tn st)
+        turned stay st q = q
+        turned (to_coordinator r e) st q = at (set_coordinator r e) st q
+        turned (to_subordinate r e) st q = at (set_subordinate r e) st q
+
+-- what every act keeps
+pub anywhere : (s : ℕ) (l : List Act) (st : Run) → Along (λ _ _. Unit {0}) s l st
+anywhere s [] st = tt
+anywhere s (a ∷ l) st = (tt, anywhere s l (act_done s a st))
+
 -- no act and no turn changes which revisions there are
 plan_act : (s : ℕ) (a : Act) (st : Run) → ((act_done s a st).plan ≡ st.plan) × ((act_done s a st).count ≡ st.count)
 plan_act s (write x) st = (refl, refl)
@@ -83,6 +121,4 @@ plan_turn s tn st = (refl, refl)
 
 pub plan_step : (s : ℕ) (l : List Act) (tn : Turn) (f k : ℕ) (st : Run) → ((step s l tn f k st).plan ≡ st.plan) × ((step s l tn f k st).count ≡ st.count)
 plan_step s l tn f k st =
-    cond_both (ltb f (length l)) (at_station s (cut_station k) (acts_done s (take f l) st)) (turn s tn (acts_done s l st)) (λ (v : Run). (v.plan ≡ st.plan) × (v.count ≡ st.count))
-    (λ _. plan_acts s (take f l) st)
-    (λ _. let h = plan_acts s l st in let k = plan_turn s tn (acts_done s l st) in (k.0 ∙ h.0, k.1 ∙ h.1))
+    step_keeps (λ _ _. Unit {0}) s (λ (v : Run). (v.plan ≡ st.plan) × (v.count ≡ st.count)) (λ a v _ h. ((plan_act s a v).0 ∙ h.0, (plan_act s a v).1 ∙ h.1)) (λ g v h. h) l tn f k st (anywhere s l st) (refl, refl)

@@ -4,7 +4,7 @@ use Rattle.std.specs.List.{AllByRecursion, range_with_len}
 use Rattle.std.proofs.ByRecursion.{All-push, kept_by_passes}
 use Rattle.std.proofs.lemmas.Bool.Decides.{nat_tests}
 use Rattle.std.proofs.lemmas.Bool.{cond_both, cond-true, cond-false, cases_Bool, true≢false, eqb-true, eq-eqb, and_parts, not-true, ltb-true}
-use Rattle.assurance.proofs.Ideal.{updated, in_set, with_station, members, kI, commit, CoordinatorEntry, none, Open, Collecting, Announcing, SubordinateEntry, idle, Active, Prepared, Station, MessageKind, PREPARE, YES, COMMIT, ABORT, ACK, Message, Plan, Run, Presumption, at_station, set_coordinator, set_subordinate, with_message, marked_installed, marked_dropped, with_post, Act, write, force, send, installed, dropped, act_done, acts_done, to_coordinator, to_subordinate, turn, step, line, letter, send_each, await, close_acts, commit_acts, prepare_acts, upon_prepare, upon_yes, upon_close, upon_inquire, handed, upon_open, open_revision, close, load, all_powered, hand_first, drain, emptied, nudge, urged, asked, inquire_all, revise, revise_all, settled, fits, call, calls}
+use Rattle.assurance.proofs.Ideal.{updated, in_set, with_station, members, kI, commit, CoordinatorEntry, none, Open, Collecting, Announcing, SubordinateEntry, idle, Active, Prepared, Station, MessageKind, PREPARE, YES, COMMIT, ABORT, ACK, Message, Plan, Run, Presumption, at_station, set_coordinator, set_subordinate, with_message, with_post, Act, write, force, send, act_done, acts_done, to_coordinator, to_subordinate, turn, step, line, letter, send_each, await, close_acts, commit_acts, prepare_acts, upon_prepare, upon_yes, upon_close, upon_inquire, handed, upon_open, open_revision, close, load, all_powered, hand_first, drain, emptied, nudge, urged, asked, inquire_all, revise, revise_all, settled, fits, call, calls}
 use Rattle.assurance.proofs.Lasting.{world, CoLegal}
 use Rattle.assurance.proofs.Sets.{mem_add, mem_zero, add_self, add_keeps, mem_below, mem_ext}
 use Rattle.assurance.proofs.Claims.{Laws, new, up}
@@ -16,7 +16,7 @@ use Rattle.assurance.proofs.Whole.{On, Aside, aside_refl, aside_trans, Sure, Res
 use Rattle.assurance.proofs.UnderWay.{In, in_left, in_last, elem_members, letters, letters_sends, room_post, post_acts, post_turn, CoPend, MildOf, Mild, Tri, mid_first, rest_of, mild_sends, in_sends, told}
 use Rattle.assurance.proofs.Settled.{sure_far, tri_of, few_sends}
 use Rattle.std.proofs.lemmas.List.{nil_from_length}
-use Rattle.assurance.proofs.Local.{locals, moved, same_locals}
+use Rattle.assurance.proofs.Local.{locals, moved, same_locals, step_keeps, anywhere}
 
 -- how many members
 abbrev pub card : ℕ → ℕ → ℕ
@@ -235,16 +235,14 @@ module _ (π : Presumption) (𝓛 : Laws π) (r c all : ℕ) (st0 : Run) (sets :
   in_post : (x m : Message) (st : Run) → In x st.post → In x (with_message m st).post
   in_post x m st h = cond_both (ltb (length st.post) 64) (st.post ++ (m ∷ [])) st.post (In x) (λ _. in_left x st.post (m ∷ []) h) (λ _. h)
 
-  in_acts : (x : Message) (s : ℕ) (l : List Act) (st : Run) → In x st.post → In x (acts_done s l st).post
-  in_acts x s [] st h = h
-  in_acts x s (write y ∷ l) st h = in_acts x s l (act_done s (write y) st) h
-  in_acts x s (force ∷ l) st h = in_acts x s l (act_done s force st) h
-  in_acts x s (send m ∷ l) st h = in_acts x s l (with_message m st) (in_post x m st h)
-  in_acts x s (installed q ∷ l) st h = in_acts x s l (marked_installed q s st) h
-  in_acts x s (dropped q ∷ l) st h = in_acts x s l (marked_dropped q s st) h
+  in_act : (x : Message) (s : ℕ) (a : Act) (st : Run) → In x st.post → In x (act_done s a st).post
+  in_act x s (send m) st h = in_post x m st h
+  in_act x s a st h = h
 
   in_did : (x : Message) (st : Run) (q s t : ℕ) (P : Rule → Type 0) (v : Run) → Did π st q s t 255 0 P v → In x st.post → In x v.post
-  in_did x st q s t P v d h = by_did π (λ (w : Run). In x w.post) st q s t 255 0 P v d h (λ u w _. subst (λ (z : Run). In x z.post) (sym (whole π 𝓛 u q s t st)) (subst (In x) (sym (post_turn s (turn_of π u q) (acts_done s (acts_of π u q s t) st))) (in_acts x s (acts_of π u q s t) st h)))
+  in_did x st q s t P v d h =
+      by_did π (λ (w : Run). In x w.post) st q s t 255 0 P v d h
+      (λ u w _. step_keeps (λ _ _. Unit {0}) s (λ (v : Run). In x v.post) (λ a v _. in_act x s a v) (λ g v i. i) (acts_of π u q s t) (turn_of π u q) 255 0 st (anywhere s (acts_of π u q s t) st) h)
 
   calm_rule : (u : Rule) (m : MessageKind) (q : ℕ) → For π u m → (PREPARE ≡ m → ⊥) → Calm (turn_of π u q)
   calm_rule (vote d) m q f n = absurd (n f)

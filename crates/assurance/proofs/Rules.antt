@@ -2,9 +2,9 @@
 use Rattle.std.proofs.Common.{◌≡◌, ℕ, zero, suc, ◌+◌, ◌<◌, ◌≤◌, Bool, true, false, not, ◌&&◌, eqb, ltb, ◌⊎◌, List, [], ◌∷◌, ◌++◌, length, sym, refl, ap, subst, inl, inr, arith, length-append}
 use Rattle.std.specs.List.{AllByRecursion, range_with_len}
 use Rattle.std.proofs.lemmas.Bool.Decides.{nat_tests}
-use Rattle.std.proofs.lemmas.Bool.{cond_both, cond-false, le-ltb}
-use Rattle.assurance.proofs.Ideal.{in_set, with_station, without_station, members, kI, kA, kE, Record, Outcome, commit, abort, CoordinatorEntry, none, Open, Collecting, Announcing, SubordinateEntry, idle, Active, Prepared, Station, MessageKind, PREPARE, YES, NO, COMMIT, ABORT, ACK, INQUIRY, Run, Presumption, Logging, not_at_all, at_station, set_coordinator, Act, write, force, send, acts_done, Turn, stay, to_coordinator, to_subordinate, turn, step, line, letter, send_each, outcome_mail, await, logged, close_acts, commit_acts, end_acts, abort_acts, force_if, ack_if, enforce_acts, reject_acts, prepare_acts, upon_prepare, upon_yes, decide_abort, upon_no, upon_outcome, upon_ack, upon_inquiry, upon_close, upon_give_up, upon_reject, upon_chase, upon_inquire, handed, nudge}
-use Rattle.std.proofs.ByRecursion.{all_kept_by}
+use Rattle.std.proofs.lemmas.Bool.{cond_both, cond-false, le-ltb, eqb-true, and_parts}
+use Rattle.assurance.proofs.Ideal.{in_set, with_station, without_station, members, kI, kA, kE, Record, Outcome, commit, abort, CoordinatorEntry, none, Open, Collecting, Announcing, SubordinateEntry, idle, Active, Prepared, Station, MessageKind, PREPARE, YES, NO, COMMIT, ABORT, ACK, INQUIRY, Run, Presumption, Logging, not_at_all, at_station, set_coordinator, Act, write, force, send, acts_done, Turn, stay, to_coordinator, to_subordinate, turn, step, line, letter, send_each, outcome_mail, await, logged, close_acts, commit_acts, end_acts, abort_acts, force_if, ack_if, enforce_acts, reject_acts, prepare_acts, upon_prepare, upon_yes, decide_abort, upon_no, upon_outcome, upon_ack, upon_inquiry, upon_close, upon_give_up, upon_reject, upon_chase, upon_inquire, handed, nudge, Kind, kC, kp, kc, ka, outcome_kind, unforced, forced, installed, dropped}
+use Rattle.std.proofs.ByRecursion.{all_kept_by, All-weaker, All-append}
 use Rattle.std.proofs.lemmas.List.Sums.{length-filter, count_by-le-length}
 use Rattle.std.proofs.lemmas.List.FromFn.{length-range_with_len}
 use Rattle.assurance.proofs.Claims.{Laws}
@@ -70,6 +70,23 @@ module _ (π : Presumption) where
   Why y r t (press o w) = y.coordinators r ≡ Announcing o w
   Why y r t (asks c) = y.subordinates r ≡ Prepared c
   Why y r t u = Unit {0}
+
+  -- the records that a rule writes
+  abbrev pub Writes : Rule → Kind → Type 0
+  Writes (vote c) k = k ≡ kp
+  Writes (decide all) k = k ≡ kC
+  Writes (drop all d) k = (k ≡ kA) ⊎ (k ≡ kE)
+  Writes (enforce o c) k = k ≡ outcome_kind o
+  Writes finish k = k ≡ kE
+  Writes (start all) k = k ≡ kI
+  Writes (deny c) k = k ≡ ka
+  Writes u k = ⊥
+
+  -- whom a rule posts to: the coordinator that the entry names, or who asked, or stations of the run
+  abbrev pub Tells : Rule → ℕ → ℕ → Type 0
+  Tells (enforce o c) t x = x ≡ c
+  Tells (asks c) t x = x ≡ c
+  Tells u t x = (x ≡ t) ⊎ (x < π.size)
 
   -- the message that a rule answers
   abbrev pub For : Rule → MessageKind → Type 0
@@ -189,6 +206,53 @@ counting_below a (suc n) b h = (omega arith, counting_below (a + 1) n b (omega a
 pub members_below : (n m : ℕ) → AllByRecursion (λ u. u < n) (members n m)
 unfolding members
 members_below n m = all_kept_by (in_set m) (λ u. u < n) (range_with_len 0 n) (counting_below 0 n n (omega arith))
+
+-- what holds of each act of a rule
+all_each : (P : Act → Type 0) (k : MessageKind) (r s : ℕ) (ts : List ℕ) → AllByRecursion (λ t. P (send (letter k r s t))) ts → AllByRecursion P (send_each k r s ts)
+all_each P k r s [] h = tt
+all_each P k r s (t ∷ ts) h = (h.0, all_each P k r s ts h.1)
+
+module _ (π : Presumption) (P : Act → Type 0) where
+  pub all_sends : (k : MessageKind) (r s m : ℕ) → ((x : ℕ) → x < π.size → P (send (letter k r s x))) → AllByRecursion P (send_each k r s (members π.size m))
+  all_sends k r s m h = all_each P k r s (members π.size m) (All-weaker _ _ h (members π.size m) (members_below π.size m))
+
+  pub all_tail : (F A : Bool) (r s t : ℕ) → P force → P (send (letter ACK r s t)) → AllByRecursion P (force_if π F (ack_if π A r s t))
+  all_tail true true r s t f m = (f, (m, tt))
+  all_tail true false r s t f m = (f, tt)
+  all_tail false true r s t f m = (m, tt)
+  all_tail false false r s t f m = tt
+
+  pub all_log : (l : Logging) (x : Record) → P (write x) → P force → AllByRecursion P (logged l x)
+  all_log not_at_all x w f = tt
+  all_log unforced x w f = (w, tt)
+  all_log forced x w f = (w, (f, tt))
+
+  pub all_end : (r all d : ℕ) → (π.ackers abort d ≡ 0 → P (write (line kE r 0))) → AllByRecursion P (end_acts π r all d)
+  all_end r all d w = cond_both (not (eqb (π.ackers abort all) 0) && eqb (π.ackers abort d) 0) (write (line kE r 0) ∷ []) [] (AllByRecursion P) (λ e. (w (eqb-true _ _ (and_parts _ _ e).1), tt)) (λ _. tt)
+
+  pub all_acts : (u : Rule) (r s t : ℕ) → ((k : Kind) (a : ℕ) → Writes π u k → P (write (line k r a))) → P force → ((k : MessageKind) (x : ℕ) → Tells π u t x → P (send (letter k r s x))) → P (installed r) → P (dropped r) → AllByRecursion P (acts_of π u r s t)
+  all_acts (vote c) r s t w f m i d = (w kp c refl, (f, (m YES t (inl refl), tt)))
+  all_acts again r s t w f m i d = (m YES t (inl refl), tt)
+  all_acts refuse r s t w f m i d = (m NO t (inl refl), tt)
+  all_acts (decide all) r s t w f m i d = (w kC all refl, (f, all_sends COMMIT r s all (λ x h. m COMMIT x (inr h))))
+  all_acts (drop all b) r s t w f m i d = All-append P (logged (π.logs all) (line kA r all)) _ (all_log (π.logs all) (line kA r all) (w kA all (inl refl)) f) (All-append P (send_each ABORT r s (members π.size b)) _ (all_sends ABORT r s b (λ x h. m ABORT x (inr h))) (all_end r all b (λ _. w kE 0 (inr refl))))
+  all_acts (enforce commit c) r s t w f m i d = (i, (w kc c refl, all_tail (π.forces commit s) (π.acks commit s) r s c f (m ACK c refl)))
+  all_acts (enforce abort c) r s t w f m i d = (d, (w ka c refl, all_tail (π.forces abort s) (π.acks abort s) r s c f (m ACK c refl)))
+  all_acts (confirm o) r s t w f m i d = all_tail false (π.acks o s) r s t f (m ACK t (inl refl))
+  all_acts finish r s t w f m i d = (w kE 0 refl, tt)
+  all_acts (answer o) r s t w f m i d = (m (outcome_mail o) t (inl refl), tt)
+  all_acts (start all) r s t w f m i d =
+      cond_both (π.opens all) (write (line kI r all) ∷ (force ∷ send_each PREPARE r s (members π.size all))) (send_each PREPARE r s (members π.size all)) (AllByRecursion P)
+      (λ _. (w kI all refl, (f, all_sends PREPARE r s all (λ x h. m PREPARE x (inr h)))))
+      (λ _. all_sends PREPARE r s all (λ x h. m PREPARE x (inr h)))
+  all_acts (deny c) r s t w f m i d = (d, (w ka c refl, forced_if (π.forces abort s)))
+    where
+      forced_if : (F : Bool) → AllByRecursion P (force_if π F [])
+      forced_if true = (f, tt)
+      forced_if false = tt
+  all_acts (press o b) r s t w f m i d = all_sends (outcome_mail o) r s b (λ x h. m (outcome_mail o) x (inr h))
+  all_acts (asks c) r s t w f m i d = (m INQUIRY c refl, tt)
+  all_acts u r s t w f m i d = tt
 
 pub length_sends : (k : MessageKind) (r s : ℕ) (ts : List ℕ) → length (send_each k r s ts) ≡ length ts
 length_sends k r s [] = refl

@@ -7,11 +7,12 @@ use Rattle.assurance.proofs.SafeActs.{SafeSt, upd_same, here_in, keeps_co, grow_
 use Rattle.assurance.proofs.SafeSteps.{Oks, safe_acts, safe_step, safe_step_mid}
 use Rattle.assurance.proofs.Sets.{mem_add, mem_zero}
 use Rattle.assurance.proofs.Claims.{Laws}
-use Rattle.assurance.proofs.SafeRules.{has_legal, ready_oks, ready_sends, now_forced, forced_got, past_await, shut_await}
+use Rattle.assurance.proofs.SafeRules.{has_legal, ready_oks, now_forced, forced_got, past_await, shut_await, Ready}
+use Rattle.assurance.proofs.Rules.{all_sends}
 
 module _ (π : Presumption) (𝓛 : Laws π) where
-  pub oks_send : (k : MessageKind) (r s : ℕ) (ts : List ℕ) (st : Run) → ((t : ℕ) → Legal π (world st) (letter k r s t)) → Oks π s (send_each k r s ts) st
-  oks_send k r s ts st h = ready_oks π s (send_each k r s ts) st (ready_sends π (world st) k r s h ts)
+  pub oks_send : (k : MessageKind) (r s m : ℕ) (st : Run) → ((t : ℕ) → Legal π (world st) (letter k r s t)) → Oks π s (send_each k r s (members π.size m)) st
+  oks_send k r s m st h = ready_oks π s (send_each k r s (members π.size m)) st (all_sends π (Ready π (world st) s) k r s m (λ t _. h t))
 
   after_sends : (Q : World → Type 0) (k : MessageKind) (r s : ℕ) (ts : List ℕ) (st : Run) → Q (world st) → Q (world (acts_done s (send_each k r s ts) st))
   after_sends Q k r s [] st q = q
@@ -49,13 +50,13 @@ module _ (π : Presumption) (𝓛 : Laws π) where
       decide : with_station ys t ≡ all → SafeSt π (step s (commit_acts π r s all) (to_coordinator r (await commit (π.ackers commit all))) f k st)
       decide w =
           safe_step π s (commit_acts π r s all) (to_coordinator r (await commit (π.ackers commit all))) f k st h
-          ((λ q _ p. ne_eqb r q (λ i. rw (← i, e) at p), λ _ _ _. refl, (l.0, (l.1, l.2, λ u m. joined r t ys st.station v l.4 u (rw (w, l.2) m)))), (tt, oks_send COMMIT r s (members π.size all) st2 (λ t. (l.0, inl c))))
+          ((λ q _ p. ne_eqb r q (λ i. rw (← i, e) at p), λ _ _ _. refl, (l.0, (l.1, l.2, λ u m. joined r t ys st.station v l.4 u (rw (w, l.2) m)))), (tt, oks_send COMMIT r s all st2 (λ t. (l.0, inl c))))
           (λ h'. safe_co_old π _ s h' r (await commit (π.ackers commit all)) (λ _. past_await commit (π.ackers commit all)) (shut_await commit (π.ackers commit all)) (after_sends (λ v. CoLegal π v s r (await commit (π.ackers commit all))) COMMIT r s (members π.size all) st2 (co_await commit (π.ackers commit all) s r (world st2) lasting)))
   safe_yes r s t x f k st h v e = h
 
   pub safe_chase : (r s : ℕ) (e : CoordinatorEntry) (f k : ℕ) (st : Run) → SafeSt π st → (st.station s).coordinators r ≡ e → SafeSt π (upon_chase π r s e f k st)
-  safe_chase r s (Announcing commit w) f k st h e = let c = subst (λ v. CoLegal π (world st) s r v) e (h.cos s r) in safe_step π s (send_each COMMIT r s (members π.size w)) stay f k st h (oks_send COMMIT r s (members π.size w) st (λ t. (c.0, inl c.2))) (λ h'. h')
-  safe_chase r s (Announcing abort w) f k st h e = let c = subst (λ v. CoLegal π (world st) s r v) e (h.cos s r) in safe_step π s (send_each ABORT r s (members π.size w)) stay f k st h (oks_send ABORT r s (members π.size w) st (λ t. (c.0, inl (inl c.2)))) (λ h'. h')
+  safe_chase r s (Announcing commit w) f k st h e = let c = subst (λ v. CoLegal π (world st) s r v) e (h.cos s r) in safe_step π s (send_each COMMIT r s (members π.size w)) stay f k st h (oks_send COMMIT r s w st (λ t. (c.0, inl c.2))) (λ h'. h')
+  safe_chase r s (Announcing abort w) f k st h e = let c = subst (λ v. CoLegal π (world st) s r v) e (h.cos s r) in safe_step π s (send_each ABORT r s (members π.size w)) stay f k st h (oks_send ABORT r s w st (λ t. (c.0, inl (inl c.2)))) (λ h'. h')
   safe_chase r s x f k st h e = h
 
   pub safe_inquire : (r s : ℕ) (e : SubordinateEntry) (f k : ℕ) (st : Run) → SafeSt π st → (st.station s).subordinates r ≡ e → SafeSt π (upon_inquire π r s e f k st)
@@ -69,7 +70,7 @@ module _ (π : Presumption) (𝓛 : Laws π) where
       let g = grow_in π u s (set_coordinator r (Collecting all 0)) k in
       let now : Shut (((at_station s (set_coordinator r (Collecting all 0)) u).station s).coordinators r) = rw (here_in s (set_coordinator r (Collecting all 0)) u, upd_same (u.station s).coordinators r (Collecting all 0)) tt in (
         safe_co_old π u s h r (Collecting all 0) (λ p. absurd (live p)) tt (known, own, whole, opened, λ t m. absurd (true≢false (sym m ∙ mem_zero t))),
-        oks_send PREPARE r s (members π.size all) (at_station s (set_coordinator r (Collecting all 0)) u) (λ t. (known, (opened_grows π (world u) (world (at_station s (set_coordinator r (Collecting all 0)) u)) g r known opened, subst (λ (x : ℕ). Shut (((at_station s (set_coordinator r (Collecting all 0)) u).station x).coordinators r)) own now))),
+        oks_send PREPARE r s all (at_station s (set_coordinator r (Collecting all 0)) u) (λ t. (known, (opened_grows π (world u) (world (at_station s (set_coordinator r (Collecting all 0)) u)) g r known opened, subst (λ (x : ℕ). Shut (((at_station s (set_coordinator r (Collecting all 0)) u).station x).coordinators r)) own now))),
       )
 
   pub safe_close : (r s : ℕ) (e : CoordinatorEntry) (f k : ℕ) (st : Run) → SafeSt π st → (st.station s).coordinators r ≡ e → SafeSt π (upon_close π r s e f k st)

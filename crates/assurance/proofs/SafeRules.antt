@@ -1,14 +1,15 @@
 -- What holds of one station between steps, and the steps that messages, giving up and rejecting lead to.
-use Rattle.std.proofs.Common.{◌≡◌, ℕ, zero, suc, ◌<◌, Bool, true, false, not, ◌&&◌, eqb, ◌⊎◌, List, [], ◌∷◌, ◌++◌, sym, refl, ap, ◌∙◌, subst, inl, inr, arith}
+use Rattle.std.proofs.Common.{◌≡◌, ℕ, zero, suc, ◌<◌, Bool, true, false, eqb, ◌⊎◌, List, [], ◌∷◌, ◌++◌, sym, refl, ap, ◌∙◌, subst, inl, inr, arith}
 use Rattle.std.specs.List.{AllByRecursion}
 use Rattle.std.proofs.ByRecursion.{All-weaker, All-append}
 use Rattle.std.proofs.lemmas.Bool.{or_cases, or_left, or_right, cond_both, cond-true, cond-false, cases_Bool, true≢false, eqb-true, eq-eqb, ne_eqb, and_parts}
-use Rattle.assurance.proofs.Ideal.{in_set, without_station, members, Kind, kI, kC, kA, kE, kp, kc, ka, code, Record, is, has, argument_of, Outcome, commit, abort, CoordinatorEntry, none, Open, Collecting, Announcing, SubordinateEntry, idle, Active, Prepared, Station, MessageKind, PREPARE, YES, NO, COMMIT, ABORT, ACK, INQUIRY, Plan, Run, Presumption, Logging, not_at_all, unforced, forced, at_station, written_station, forced_station, set_coordinator, set_subordinate, marked_installed, marked_dropped, Act, write, force, send, installed, dropped, act_done, stay, to_coordinator, to_subordinate, step, line, letter, send_each, outcome_mail, outcome_kind, await, logged, end_acts, abort_acts, force_if, ack_if, enforce_acts, reject_acts, prepare_acts, upon_prepare, decide_abort, upon_no, upon_outcome, upon_ack, upon_inquiry, upon_give_up, upon_reject}
+use Rattle.assurance.proofs.Ideal.{in_set, without_station, members, Kind, kI, kC, kA, kE, kp, kc, ka, code, Record, is, has, argument_of, Outcome, commit, abort, CoordinatorEntry, none, Open, Collecting, Announcing, SubordinateEntry, idle, Active, Prepared, Station, PREPARE, YES, NO, COMMIT, ABORT, ACK, INQUIRY, Plan, Run, Presumption, at_station, written_station, forced_station, set_coordinator, set_subordinate, marked_installed, marked_dropped, Act, write, force, send, installed, dropped, act_done, stay, to_coordinator, to_subordinate, step, line, letter, send_each, outcome_mail, outcome_kind, await, logged, end_acts, abort_acts, force_if, ack_if, enforce_acts, reject_acts, prepare_acts, upon_prepare, decide_abort, upon_no, upon_outcome, upon_ack, upon_inquiry, upon_give_up, upon_reject}
 use Rattle.assurance.proofs.Lasting.{has_append, Got, No, Past, Inactive, Idle, Shut, Doom, Veto, Settled, World, world, Grow, head, Named, Comm, Abort, Heard, Asked, AllSettled, LegalOf, Legal, RecOf, RecLegal, CoLegal, SubLegal, known_grows, comm_grows, abort_grows, legal_grows, rec_grows}
 use Rattle.assurance.proofs.Sets.{mem_del, mem_zero, del_back}
 use Rattle.assurance.proofs.Claims.{Laws}
 use Rattle.assurance.proofs.SafeActs.{SafeSt, upd_same, here_in, keeps_refl, keeps_write, keeps_force, keeps_co, keeps_sub, grow_in, safe_co, safe_co_old, safe_sub}
 use Rattle.assurance.proofs.SafeSteps.{OkAct, Oks, safe_step, safe_step_first, in_in}
+use Rattle.assurance.proofs.Rules.{all_log, all_end, all_sends}
 
 abbrev pub Has : Kind → ℕ → Station → Type 0
 Has k r x = (has k r x.stable ≡ true) ⊎ (has k r x.loose ≡ true)
@@ -104,10 +105,6 @@ module _ (π : Presumption) where
   pub ready_oks : (s : ℕ) (l : List Act) (st : Run) → AllByRecursion (Ready (world st) s) l → Oks π s l st
   ready_oks s [] st h = tt
   ready_oks s (a ∷ l) st h = (ready_ok s a st h.0, ready_oks s l (act_done s a st) (All-weaker _ _ (λ b. ready_grows (world st) (world (act_done s a st)) (ready_act s a st h.0) s b) l h.1))
-
-  pub ready_sends : (w : World) (k : MessageKind) (r s : ℕ) → ((t : ℕ) → Legal π w (letter k r s t)) → (ts : List ℕ) → AllByRecursion (Ready w s) (send_each k r s ts)
-  ready_sends w k r s h [] = tt
-  ready_sends w k r s h (t ∷ ts) = (h t, ready_sends w k r s h ts)
 
 -- INQUIRY
 module _ (π : Presumption) (𝓛 : Laws π) where
@@ -225,25 +222,19 @@ module _ (π : Presumption) (𝓛 : Laws π) where
     unfolding st0
     safe0 = safe_co π st s h r aw (λ _. past_await abort (π.ackers abort d)) (shut_await abort (π.ackers abort d)) (cond_both (eqb (π.ackers abort d) 0) none (Announcing abort (π.ackers abort d)) (CoLegal π (world st0) s r) (λ _. tt) (λ z. (known, own, doomed, heard0, (λ e. true≢false (sym (eq-eqb _ _ e) ∙ z), λ u m. (let b = 𝓛.backer abort d u m in (rw (← whole) (part u b.0), b.1))))))
 
-    a_ready : (l : Logging) → AllByRecursion (Ready π (world st0) s) (logged l (line kA r all))
+    a_ready : AllByRecursion (Ready π (world st0) s) (logged (π.logs all) (line kA r all))
     unfolding st0
-    a_ready not_at_all = tt
-    a_ready unforced = ((λ _. refl, λ _. refl, (known, (own, whole))), tt)
-    a_ready forced = ((λ _. refl, λ _. refl, (known, (own, whole))), (tt, tt))
+    a_ready = all_log π (Ready π (world st0) s) (π.logs all) (line kA r all) (λ _. refl, λ _. refl, (known, (own, whole))) tt
 
     e_ready : AllByRecursion (Ready π (world st0) s) (end_acts π r all d)
     unfolding st0
-    e_ready =
-        cond_both (not (eqb (π.ackers abort all) 0) && eqb (π.ackers abort d) 0) (write (line kE r 0) ∷ []) [] (AllByRecursion (Ready π (world st0) s))
-        (λ b. let z : π.ackers abort d ≡ 0 = eqb-true _ _ (and_parts _ _ b).1 in
-        ((λ _. refl, λ _. refl, (known, (own, inr (doomed, λ t m a. elim (heard0 t m a) [ inl i ↦ absurd (true≢false (sym (rw z at i) ∙ mem_zero t)) | inr i ↦ i ])))), tt))
-        (λ _. tt)
+    e_ready = all_end π (Ready π (world st0) s) r all d (λ z. (λ _. refl, λ _. refl, (known, (own, inr (doomed, λ t m a. elim (heard0 t m a) [ inl i ↦ absurd (true≢false (sym (rw z at i) ∙ mem_zero t)) | inr i ↦ i ])))))
 
     pub safe_decide : SafeSt π (decide_abort π r s all d f k st)
     unfolding st0
     safe_decide =
         safe_step_first π s (abort_acts π r s all d) (to_coordinator r aw) f k st safe0
-        (ready_oks π s (abort_acts π r s all d) st0 (All-append _ (logged (π.logs all) (line kA r all)) _ (a_ready (π.logs all)) (All-append _ (send_each ABORT r s (members π.size d)) _ (ready_sends π (world st0) ABORT r s (λ t. (known, inl (inl doomed))) (members π.size d)) e_ready)))
+        (ready_oks π s (abort_acts π r s all d) st0 (All-append _ (logged (π.logs all) (line kA r all)) _ a_ready (All-append _ (send_each ABORT r s (members π.size d)) _ (all_sends π (Ready π (world st0) s) ABORT r s d (λ t _. (known, inl (inl doomed)))) e_ready)))
 
 pub is_own : (k : Kind) (r a : ℕ) → is k r (line k r a) ≡ true
 is_own kI r a = eq-eqb r r refl
