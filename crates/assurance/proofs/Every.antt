@@ -1,26 +1,28 @@
 -- All that holds after every call, and what settling leaves.
 use Rattle.std.proofs.Common.{◌≡◌, ℕ, ◌+◌, ◌^◌, ◌<◌, ◌≤◌, Bool, true, false, cond, not, ◌&&◌, eqb, ltb, List, [], ◌∷◌, length, get_or, take, sym, refl, ap, ◌∙◌, subst, inl, inr, arith, drop}
-use Rattle.std.specs.List.{AllByRecursion, range_with_len}
+use Rattle.std.specs.List.{AllByRecursion, range_with_len, sum_by}
 use Rattle.std.proofs.ByRecursion.{All-weaker, All-get_or, All-append, All-take, All-drop}
 use Rattle.std.proofs.lemmas.Bool.{or_from, cond_both, cond-true, cond-false, cases_Bool, true≢false, ne_eqb, and_parts, not-true, cases_lt, ltb-true}
 use Rattle.assurance.proofs.Ideal.{updated, in_set, members, Kind, kp, kc, ka, Record, is, has, CoordinatorEntry, none, Open, SubordinateEntry, idle, Active, Prepared, Station, ACK, Message, Plan, Run, Presumption, at_station, cut_station, with_post, Act, Turn, step, letter, handed, restarted_station, upon_open, drop_at, Call, open_revision, close, give_up, chase, reject, inquire, deliver, lose, cut, restart, settle, look, all_powered, hand_first, emptied, urged, asked, inquire_all, revise, revise_all, settled, fits, call, calls}
 use Rattle.assurance.proofs.Lasting.{Got, No, world, Legal, SubLegal}
 use Rattle.assurance.proofs.Sets.{mem_zero, mem_below}
-use Rattle.assurance.proofs.Claims.{Laws, Quiet, new, up}
+use Rattle.assurance.proofs.Claims.{Laws, Quiet, new}
 use Rattle.assurance.proofs.Invariant.{Inv, inv_post, none_yet, inv_did, safe_handed, safe_nudge, tidy_open, args_of}
 use Rattle.assurance.proofs.Rules.{Rule, acts_of, turn_of, For, Did, by_did, did_handed, did_close, did_give_up, did_chase, did_reject, did_inquire, did_nudge, counting_below}
 use Rattle.assurance.proofs.Ranges.{NearM, Near, near_in, near_did, Marked, marked_in, marked_did, cut_back, drp_did}
-use Rattle.assurance.proofs.Counts.{FewS, Few, few_did, few_cut, few_restart, few_open, room, kinds}
+use Rattle.assurance.proofs.Counts.{FewS, Few, few_did, few_cut, few_restart, few_open, room, ended, sort_of, counts, left_of, left, left_none}
 use Rattle.assurance.proofs.Loads.{keeps_emptied}
 use Rattle.assurance.proofs.Whole.{On, Sure, Rested}
 use Rattle.assurance.proofs.UnderWay.{Elem, elem_members}
 use Rattle.assurance.proofs.Settled.{settles, rest_all, installed_all}
 use Rattle.assurance.proofs.Local.{locals, turned_power, same_locals, in_at, step_at, plan_step}
 use Rattle.assurance.proofs.SafeActs.{SafeSt, safe_cut}
-use Rattle.assurance.proofs.SafeRules.{TidyS, safe_give_up, safe_reject}
+use Rattle.assurance.proofs.SafeRules.{TidyS, safe_give_up, safe_reject, is_that}
 use Rattle.assurance.proofs.SafeCalls.{safe_chase, safe_inquire, safe_close, safe_restart}
 use Rattle.assurance.proofs.SafeOpen.{safe_open}
 use Rattle.assurance.proofs.Tidy.{tidy_cut, tidy_restart}
+use Rattle.std.proofs.lemmas.List.Sums.{sum_by-cons}
+use Rattle.std.proofs.lemmas.Bool.Decides.{nat_tests}
 
 -- a dark station has no entry
 abbrev pub DarkS : Station → Type 0
@@ -261,16 +263,13 @@ module _ (π : Presumption) (𝓛 : Laws π) where
       cs st h d
 
   -- the start
-  few_new : FewS up
-  few_new = record { is1 = λ r. omega arith; ds = λ r. omega arith; es = λ r. omega arith; ps = λ r. omega arith; ts = λ r. omega arith }
-
   pub full_new : Inv π 𝓛 new → Full new
   full_new i =
       record {
         inv = i;
         near = record { posts = tt; plans = λ r. omega (arith, 𝓛.some); sets = λ r t m. absurd (true≢false (sym m ∙ mem_zero t)); far = λ s l. refl };
         marked = λ s r q. elim q [ inl e ↦ absurd (true≢false (sym e)) | inr e ↦ absurd (true≢false (sym e)) ];
-        few = λ s. few_new;
+        few = λ s g r. omega (arith, left_none g);
         cap = omega arith;
         dark = λ s e r. (refl, refl);
       }
@@ -301,22 +300,22 @@ module _ (π : Presumption) (𝓛 : Laws π) where
   room_all st h s = omega (arith, room st.count (st.station s) (All-weaker _ _ (λ x k. k.0) (st.station s).stable (h.inv.safe.recs s).0) (All-weaker _ _ (λ x k. k.0) (st.station s).loose (h.inv.safe.recs s).1) (h.few s), h.cap)
 
   -- Prepared exactly where there is power, a stable p and no c or a
-  some_kinds : (k : Kind) (r : ℕ) (l : List Record) → kinds k r l ≤ 0 → has k r l ≡ false
-  some_kinds k r [] h = refl
-  some_kinds k r (x ∷ l) h = or_from _ _ (go (is k r x) refl) (some_kinds k r l (omega arith))
+  none_of : (k : Kind) (r : ℕ) (l : List Record) → sum_by (counts (sort_of k) r) l ≤ 0 → has k r l ≡ false
+  none_of k r [] h = refl
+  none_of k r (x ∷ l) h = let c = sum_by-cons (counts (sort_of k) r) x l in or_from _ _ (go (is k r x) refl) (none_of k r l (omega arith))
     where
       go : (b : Bool) → is k r x ≡ b → is k r x ≡ false
-      go true e = absurd (omega (arith, h, ap Rattle.assurance.proofs.Counts.one e))
+      go true e = let c = sum_by-cons (counts (sort_of k) r) x l in let z = (is_that k r x e).0 in absurd (grind (arith, nat_tests))
       go false e = e
 
   pub doubt_is : (st : Run) → Full st → (r s d : ℕ) → (st.station s).subordinates r ≡ Prepared d → ((st.station s).power ≡ true) × Got kp r (st.station s) × No kc r (st.station s) × No ka r (st.station s)
   doubt_is st h r s d e =
-      let t = (h.few s).ts r in
-      let w : Rattle.assurance.proofs.Counts.outcome_left ((st.station s).subordinates r) ≡ 1 = ap Rattle.assurance.proofs.Counts.outcome_left e in (
+      let t = h.few s ended r in
+      let w : left ended r (st.station s) ≡ 1 = ap (left_of ended ((st.station s).coordinators r)) e in (
         elim (cases_Bool (st.station s).power) [ inl i ↦ i | inr i ↦ absurd (grind (arith, e, (h.dark s i r).1)) ],
         (subst (λ v. SubLegal π (world st) s r v) e (h.inv.safe.subs s r)).2,
-        (some_kinds kc r (st.station s).stable (omega arith), some_kinds kc r (st.station s).loose (omega arith)),
-        (some_kinds ka r (st.station s).stable (omega arith), some_kinds ka r (st.station s).loose (omega arith)),
+        (none_of kc r (st.station s).stable (omega arith), none_of kc r (st.station s).loose (omega arith)),
+        (none_of ka r (st.station s).stable (omega arith), none_of ka r (st.station s).loose (omega arith)),
       )
 
   pub is_doubt : (st : Run) → Full st → (r s : ℕ) → (st.station s).power ≡ true → Got kp r (st.station s) → No kc r (st.station s) → No ka r (st.station s) → (d : ℕ) × ((st.station s).subordinates r ≡ Prepared d)

@@ -1,11 +1,12 @@
 -- Each delivery lowers the load of the post, so emptying it ends; how many deliveries settling makes.
 use Rattle.std.proofs.Common.{◌≡◌, ℕ, zero, suc, ◌+◌, ◌*◌, ◌<◌, ◌≤◌, Bool, true, false, not, ◌&&◌, eqb, ltb, List, [], ◌∷◌, ◌++◌, length, take, sym, refl, ap, arith}
 use Rattle.std.proofs.lemmas.Bool.{cond_both}
-use Rattle.assurance.proofs.Ideal.{members, kA, kE, Record, Outcome, commit, abort, CoordinatorEntry, Collecting, Announcing, SubordinateEntry, Prepared, MessageKind, PREPARE, COMMIT, ABORT, INQUIRY, Message, Run, Presumption, Logging, not_at_all, at_station, cut_station, with_message, marked_installed, marked_dropped, with_post, Act, write, force, send, installed, dropped, act_done, acts_done, Turn, stay, to_coordinator, turn, step, line, letter, send_each, outcome_mail, await, logged, end_acts, abort_acts, force_if, ack_if, enforce_acts, upon_inquire, handed, weigh, load, hand_first, drain, emptied, nudge, urged, asked, inquire_all, revise, revise_all, settled}
+use Rattle.assurance.proofs.Ideal.{members, kA, kE, Record, Outcome, commit, abort, CoordinatorEntry, Collecting, Announcing, SubordinateEntry, Prepared, MessageKind, PREPARE, COMMIT, ABORT, INQUIRY, Message, Run, Presumption, Logging, not_at_all, at_station, cut_station, with_message, with_post, Act, write, send, act_done, acts_done, Turn, stay, to_coordinator, turn, step, line, letter, send_each, outcome_mail, await, logged, end_acts, abort_acts, force_if, ack_if, enforce_acts, upon_inquire, handed, weigh, load, hand_first, drain, emptied, nudge, urged, asked, inquire_all, revise, revise_all, settled}
 use Rattle.std.proofs.lemmas.List.FromFn.{length-range_with_len}
-use Rattle.std.specs.List.{range_with_len}
+use Rattle.std.specs.List.{range_with_len, sum_by}
 use Rattle.assurance.proofs.Claims.{Laws}
 use Rattle.assurance.proofs.Rules.{Rule, decide, drop, enforce, confirm, answer, start, deny, press, asks, acts_of, turn_of, For, by_did, did_handed, few_members}
+use Rattle.std.proofs.lemmas.List.Sums.{sum_by-cons, sum_by-append, sum_by-take-le}
 
 -- what waits weighs, in messages of each kind
 pub load_append : (n : ℕ) (l m : List Message) → load n (l ++ m) ≡ load n l + load n m
@@ -24,32 +25,24 @@ pub load_most : (n : ℕ) (l : List Message) → 1 ≤ n → load n l ≤ (2 * n
 load_most n [] h = omega arith
 load_most n (m ∷ l) h = omega (arith, weigh_most n m.mail h, load_most n l h)
 
-abbrev pub posted : ℕ → List Act → ℕ
-posted n [] = 0
-posted n (send m ∷ l) = weigh n m.mail + posted n l
-posted n (a ∷ l) = posted n l
+-- what an act posts weighs, and what a list of acts does
+abbrev posts : ℕ → Act → ℕ
+posts n (send m) = weigh n m.mail
+posts n a = 0
 
-posted_append : (n : ℕ) (l m : List Act) → posted n (l ++ m) ≡ posted n l + posted n m
-posted_append n [] m = omega arith
-posted_append n (send x ∷ l) m = omega (arith, posted_append n l m)
-posted_append n (a ∷ l) m = posted_append n l m
+abbrev pub posted : ℕ → List Act → ℕ
+posted n l = sum_by (posts n) l
 
 load_send : (n : ℕ) (m : Message) (st : Run) → load n (with_message m st).post ≤ weigh n m.mail + load n st.post
 load_send n m st = cond_both (ltb (length st.post) 64) (st.post ++ (m ∷ [])) st.post (λ p. load n p ≤ weigh n m.mail + load n st.post) (λ _. omega (arith, load_append n st.post (m ∷ []))) (λ _. omega arith)
 
+load_act : (n s : ℕ) (a : Act) (st : Run) → load n (act_done s a st).post ≤ posts n a + load n st.post
+load_act n s (send m) st = load_send n m st
+load_act n s a st = omega arith
+
 load_acts : (n s : ℕ) (l : List Act) (st : Run) → load n (acts_done s l st).post ≤ posted n l + load n st.post
 load_acts n s [] st = omega arith
-load_acts n s (write x ∷ l) st = load_acts n s l (act_done s (write x) st)
-load_acts n s (force ∷ l) st = load_acts n s l (act_done s force st)
-load_acts n s (send m ∷ l) st = omega (arith, load_acts n s l (with_message m st), load_send n m st)
-load_acts n s (installed r ∷ l) st = load_acts n s l (marked_installed r s st)
-load_acts n s (dropped r ∷ l) st = load_acts n s l (marked_dropped r s st)
-
-posted_take : (n f : ℕ) (l : List Act) → posted n (take f l) ≤ posted n l
-posted_take n zero l = omega arith
-posted_take n (suc f) [] = omega arith
-posted_take n (suc f) (send m ∷ l) = omega (arith, posted_take n f l)
-posted_take n (suc f) (a ∷ l) = posted_take n f l
+load_acts n s (a ∷ l) st = omega (arith, load_acts n s l (act_done s a st), load_act n s a st, sum_by-cons (posts n) a l)
 
 load_turn : (n s : ℕ) (t : Turn) (st : Run) → load n (turn s t st).post ≤ load n st.post
 load_turn n s stay st = omega arith
@@ -58,12 +51,12 @@ load_turn n s tn st = omega arith
 pub load_step : (n s : ℕ) (l : List Act) (t : Turn) (f k : ℕ) (st : Run) → load n (step s l t f k st).post ≤ posted n l + load n st.post
 load_step n s l t f k st =
     cond_both (ltb f (length l)) (at_station s (cut_station k) (acts_done s (take f l) st)) (turn s t (acts_done s l st)) (λ (u : Run). load n u.post ≤ posted n l + load n st.post)
-    (λ _. omega (arith, load_acts n s (take f l) st, posted_take n f l))
+    (λ _. omega (arith, load_acts n s (take f l) st, sum_by-take-le (posts n) l f))
     (λ _. omega (arith, load_acts n s l st, load_turn n s t (acts_done s l st)))
 
 posted_send : (n : ℕ) (k : MessageKind) (r s : ℕ) (ts : List ℕ) → posted n (send_each k r s ts) ≡ length ts * weigh n k
 posted_send n k r s [] = omega arith
-posted_send n k r s (t ∷ ts) = omega (arith, posted_send n k r s ts)
+posted_send n k r s (t ∷ ts) = omega (arith, posted_send n k r s ts, sum_by-cons (posts n) (send (letter k r s t)) (send_each k r s ts))
 
 module _ (π : Presumption) (𝓛 : Laws π) where
   posted_tail : (n : ℕ) (F A : Bool) (r s c : ℕ) → posted n (force_if π F (ack_if π A r s c)) ≤ 1
@@ -90,7 +83,7 @@ module _ (π : Presumption) (𝓛 : Laws π) where
   posted_drop : (r s all d : ℕ) → posted π.size (abort_acts π r s all d) ≤ 2 * π.size
   posted_drop r s all d =
       let n = π.size in
-      omega (arith, posted_append n (logged (π.logs all) (line kA r all)) (send_each ABORT r s (members n d) ++ end_acts π r all d), posted_append n (send_each ABORT r s (members n d)) (end_acts π r all d), posted_log n (π.logs all) (line kA r all), posted_end n r all d, posted_send n ABORT r s (members n d), few_members n d)
+      omega (arith, sum_by-append (posts n) (logged (π.logs all) (line kA r all)) (send_each ABORT r s (members n d) ++ end_acts π r all d), sum_by-append (posts n) (send_each ABORT r s (members n d)) (end_acts π r all d), posted_log n (π.logs all) (line kA r all), posted_end n r all d, posted_send n ABORT r s (members n d), few_members n d)
 
   posted_rule : (u : Rule) (m : MessageKind) (r s t : ℕ) → For π u m → posted π.size (acts_of π u r s t) < weigh π.size m
   posted_rule (decide all) m r s t e = rw (← e) (omega (arith, posted_send π.size COMMIT r s (members π.size all), few_members π.size all))
