@@ -1,4 +1,3 @@
-pub mod Fuse
-pub mod Posts
+pub mod Performed
 pub mod Steps
 pub mod Places

@@ -1,50 +1,65 @@
 -- A whole step under a fuse: what performing its acts one by one comes to.
-use Rattle.std.proofs.Common.{◌≡◌, ℕ, zero, suc, ◌-◌, ◌<◌, ◌≤◌, min, true, List, [], ◌∷◌, length, take, sym, refl, ap, ◌∙◌, ⊎_elim, arith}
-use Rattle.actor.proofs.Fuse.{after_fails, after_does, dark_performed}
-use Rattle.actor.specs.Acting.{Acting, begun, failed, did, performed}
-use Rattle.actor.specs.Store.{Store, done, all_done, journal_cut, burns, done_under_fuse}
+use Rattle.std.proofs.Common.{◌≡◌, ℕ, zero, suc, ◌+◌, ◌<◌, ◌≤◌, true, false, cond, List, [], ◌∷◌, length, take, Ok, Err, Result, sym, refl, ap, ◌∙◌, ⊎_elim, arith}
+use Rattle.actor.proofs.Performed.{dark_performed}
+use Rattle.actor.specs.Acting.{Acting, begun, burnt, after, performed}
+use Rattle.actor.specs.Store.{Store, done, all_done, journal_cut, answer_under_fuse, done_under_fuse}
+use Rattle.actor.specs.declared.fuse.Fuse.{Fuse}
+use Rattle.actor.specs.declared.fuse.PowerCut.{PowerCut}
 use Rattle.station.specs.Acts.{Act}
 use Rattle.std.proofs.lemmas.Bool.{cases_lt, lt-ltb, le-ltb, cond-true, cond-false}
 
+-- station s under the fuse f, with n acts done
+abbrev lit : ℕ → Fuse → ℕ → Store → Acting
+lit s f n w = record { store = w; station = s; fuse = f; done = n; dark = false }
+
+-- the fuse allows one more act
+after_does : (a : Act) (s : ℕ) (f : Fuse) (n : ℕ) (w : Store) → n < f.acts → after a (lit s f n w) ≡ lit s f (n + 1) (done s a w)
+unfolding after burnt
+after_does a s f n w h = simp (lt-ltb n f.acts h)
+
+-- the fuse is burnt
+after_fails : (a : Act) (s : ℕ) (f : Fuse) (n : ℕ) (w : Store) → f.acts ≤ n → after a (lit s f n w) ≡ record { store = journal_cut s f.kept w; station = s; fuse = f; done = n; dark = true }
+unfolding after burnt
+after_fails a s f n w h = simp (le-ltb n f.acts h)
+
 -- the fuse is long enough: all acts are done
-fuse_holds : (acts : List Act) (s f k : ℕ) (w : Store) → length acts ≤ f → performed acts (begun s f k w) ≡ begun s (f - length acts) k (all_done s acts w)
-unfolding did all_done
-fuse_holds [] s f k w h = ap (λ n. begun s n k w) (omega arith)
-fuse_holds (a ∷ acts) s f k w h =
-    rw (after_does a (begun s f k w) refl (λ e. omega arith))
-    (fuse_holds acts s (f - 1) k (done s a w) (omega arith) ∙ ap (λ n. begun s n k (all_done s acts (done s a w))) (omega arith))
+fuse_holds : (acts : List Act) (s : ℕ) (f : Fuse) (n : ℕ) (w : Store) → n + length acts ≤ f.acts → performed acts (lit s f n w) ≡ lit s f (n + length acts) (all_done s acts w)
+unfolding all_done
+fuse_holds [] s f n w h = ap (λ m. lit s f m w) (omega arith)
+fuse_holds (a ∷ acts) s f n w h =
+    rw (after_does a s f n w (omega arith))
+    (fuse_holds acts s f (n + 1) (done s a w) (omega arith) ∙ ap (λ m. lit s f m (all_done s acts (done s a w))) (omega arith))
 
 -- a station that went dark in a step
-abbrev pub cut_in : ℕ → ℕ → Store → Acting
-cut_in s k w = record { store = journal_cut s k w; station = s; left = 0; kept = k; dark = true }
+abbrev cut_in : ℕ → Fuse → Store → Acting
+cut_in s f w = record { store = journal_cut s f.kept w; station = s; fuse = f; done = f.acts; dark = true }
 
--- the fuse is below the number of acts: so many are done, then the station is cut
-fuse_burns : (f : ℕ) (acts : List Act) (s k : ℕ) (w : Store) → f < length acts → performed acts (begun s f k w) ≡ cut_in s k (all_done s (take f acts) w)
-unfolding did failed all_done
-fuse_burns f [] s k w h = absurd (omega arith)
-fuse_burns zero (a ∷ acts) s k w h = rw (after_fails a (begun s 0 k w) refl refl) (dark_performed acts (cut_in s k w) refl)
-fuse_burns (suc f) (a ∷ acts) s k w h =
-    rw (after_does a (begun s (suc f) k w) refl (λ e. omega arith))
-    (ap (λ n. performed acts (begun s n k (done s a w))) (omega arith) ∙ fuse_burns f acts s k (done s a w) (omega arith))
+-- the fuse is below the number of acts: so many as it still allows are done, then the station is cut
+fuse_burns : (k : ℕ) (acts : List Act) (s : ℕ) (f : Fuse) (n : ℕ) (w : Store) → n + k ≡ f.acts → k < length acts → performed acts (lit s f n w) ≡ cut_in s f (all_done s (take k acts) w)
+unfolding all_done
+fuse_burns k [] s f n w e h = absurd (omega arith)
+fuse_burns zero (a ∷ acts) s f n w e h =
+    rw (after_fails a s f n w (omega arith))
+    (dark_performed acts _ refl ∙ ap (λ m. record { store = journal_cut s f.kept w; station = s; fuse = f; done = m; dark = true }) (omega arith))
+fuse_burns (suc k) (a ∷ acts) s f n w e h =
+    rw (after_does a s f n w (omega arith)) (fuse_burns k acts s f (n + 1) (done s a w) (omega arith) (omega arith))
 
-module _ (acts : List Act) (s f k : ℕ) (w : Store) (l : Acting) (e : l ≡ performed acts (begun s f k w)) where
-  -- the acts done are what the fuse is shorter by
-  pub acts_done : f - l.left ≡ min f (length acts)
-  acts_done =
-      ⊎_elim (λ h. let b = ap (λ (x : Acting). x.left) (e ∙ fuse_burns f acts s k w h) in omega arith)
-      (λ h. let b = ap (λ (x : Acting). x.left) (e ∙ fuse_holds acts s f k w h) in omega arith)
-      (cases_lt f (length acts))
+-- what a station in a step answers: how many acts are done, or the power cut after so many
+abbrev pub answer_of : Acting → Result ℕ PowerCut
+answer_of l = cond l.dark (Err (record { after = l.done })) (Ok l.done)
 
-  -- the station is dark where the fuse burns
-  pub dark_burns : l.dark ≡ burns f acts
-  dark_burns =
-      ⊎_elim (λ h. ap (λ (x : Acting). x.dark) (e ∙ fuse_burns f acts s k w h) ∙ sym (lt-ltb f (length acts) h))
-      (λ h. ap (λ (x : Acting). x.dark) (e ∙ fuse_holds acts s f k w h) ∙ sym (le-ltb f (length acts) h))
-      (cases_lt f (length acts))
+-- what the acts of a step under a fuse change, is what performing them one by one changes
+pub store_under_fuse : (s : ℕ) (acts : List Act) (f : Fuse) (w : Store) → done_under_fuse s acts f.acts f.kept w ≡ (performed acts (begun s f w)).store
+unfolding done_under_fuse
+store_under_fuse s acts f w =
+    ⊎_elim (λ h. cond-true _ _ _ (lt-ltb f.acts (length acts) h) ∙ sym (ap (λ (x : Acting). x.store) (fuse_burns f.acts acts s f 0 w (omega arith) h)))
+    (λ h. cond-false _ _ _ (le-ltb f.acts (length acts) h) ∙ sym (ap (λ (x : Acting). x.store) (fuse_holds acts s f 0 w (omega arith))))
+    (cases_lt f.acts (length acts))
 
-  pub store_done : l.store ≡ done_under_fuse s acts f k w
-  unfolding done_under_fuse
-  store_done =
-      ⊎_elim (λ h. ap (λ (x : Acting). x.store) (e ∙ fuse_burns f acts s k w h) ∙ sym (cond-true _ _ _ (lt-ltb f (length acts) h)))
-      (λ h. ap (λ (x : Acting). x.store) (e ∙ fuse_holds acts s f k w h) ∙ sym (cond-false _ _ _ (le-ltb f (length acts) h)))
-      (cases_lt f (length acts))
+-- and the answer of the step is the answer of the station then
+pub answer_of_step : (s : ℕ) (w : Store) (f : Fuse) (acts : List Act) → answer_under_fuse f.acts acts ≡ answer_of (performed acts (begun s f w))
+unfolding answer_under_fuse
+answer_of_step s w f acts =
+    ⊎_elim (λ h. cond-true _ _ _ (lt-ltb f.acts (length acts) h) ∙ sym (ap answer_of (fuse_burns f.acts acts s f 0 w (omega arith) h)))
+    (λ h. cond-false _ _ _ (le-ltb f.acts (length acts) h) ∙ (ap (λ n. Ok n) (omega arith) ∙ sym (ap answer_of (fuse_holds acts s f 0 w (omega arith)))))
+    (cases_lt f.acts (length acts))

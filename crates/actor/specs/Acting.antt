@@ -1,46 +1,44 @@
 -- A station in the middle of a step, as the code performs it act by act.
-use Rattle.std.specs.Prelude.{ℕ, ◌-◌, Bool, true, false, cond, List, [], ◌∷◌, ◌==◌}
-use Rattle.actor.specs.Store.{Store, done, journal_cut}
+use Rattle.std.specs.Prelude.{ℕ, ◌+◌, Bool, true, false, cond, List, [], ◌∷◌, nat_lt}
+use Rattle.actor.specs.Store as on_store
+use Rattle.actor.specs.Store.{Store, journal_cut}
+use Rattle.actor.specs.declared.fuse.Fuse.{Fuse}
 use Rattle.station.specs.Acts.{Act}
 use Rattle.station.specs.declared.messages.MessageKind.{MessageKind}
 use Rattle.station.specs.declared.messages.MessageKind.TheVariants.{Prepare, Yes, No, Commit, Abort, Ack, Inquiry}
 
--- The station that acts, how many acts its fuse still allows, how many records a cut keeps, whether it is dark.
+-- What the acts change, the station that acts, its fuse, how many acts are done, whether it is dark.
 pub record Acting : Type 0 where
   pub store : Store
   pub station : ℕ
-  pub left : ℕ
-  pub kept : ℕ
+  pub fuse : Fuse
+  pub done : ℕ
   pub dark : Bool
 
--- The same station with another store.
-abbrev pub with_store : Store → Acting → Acting
-with_store w l = record { store = w; station = l.station; left = l.left; kept = l.kept; dark = l.dark }
-
--- A step of station s begins.
-abbrev pub begun : ℕ → ℕ → ℕ → Store → Acting
-begun s f k w = record { store = w; station = s; left = f; kept = k; dark = false }
+-- A step of station s begins under a fuse.
+abbrev pub begun : ℕ → Fuse → Store → Acting
+begun s f w = record { store = w; station = s; fuse = f; done = 0; dark = false }
 
 -- The power fails: the station's journal is cut.
-unfoldable pub failed : Acting → Acting
-failed l = record { store = journal_cut l.station l.kept l.store; station = l.station; left = l.left; kept = l.kept; dark = true }
+abbrev pub failed : Acting → Acting
+failed l = record l { store = journal_cut l.station l.fuse.kept l.store; dark = true }
 
--- The act is done, and the fuse is shorter by one.
-unfoldable pub did : Act → Acting → Acting
-did a l = record { store = done l.station a l.store; station = l.station; left = l.left - 1; kept = l.kept; dark = l.dark }
+-- An act begins: one more is counted, or the power fails where the fuse is burnt; nothing at a dark station.
+unfoldable pub burnt : Acting → Acting
+burnt l = cond l.dark l (cond (nat_lt l.done l.fuse.acts) (record l { done = l.done + 1 }) (failed l))
 
--- An act where it is due: nothing at a dark station, the power cut where the fuse is burnt.
+-- An act of a station, which does nothing where it is dark.
+abbrev pub did : Act → Acting → Acting
+did a l = cond l.dark l (record l { store = on_store.done l.station a l.store })
+
+-- An act where it is due.
 unfoldable pub after : Act → Acting → Acting
-after a l = cond l.dark l (cond (l.left == 0) (failed l) (did a l))
+after a l = did a (burnt l)
 
 -- Acts, one after the other.
 abbrev pub performed : List Act → Acting → Acting
 performed [] l = l
 performed (a ∷ acts) l = performed acts (after a l)
-
--- The fuse is shorter by one.
-abbrev pub shorter : Acting → Acting
-shorter l = record { store = l.store; station = l.station; left = l.left - 1; kept = l.kept; dark = l.dark }
 
 -- The messages that only a receipt, or an outcome that is known already, can post.
 abbrev pub guarded : MessageKind → Bool

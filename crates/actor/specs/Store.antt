@@ -1,9 +1,10 @@
 -- What acts change: the journals, the post and the as-run log.
-use Rattle.std.specs.Prelude.{ℕ, Bool, cond, List, [], ◌∷◌, ◌++◌, length, take, nat_lt}
+use Rattle.std.specs.Prelude.{ℕ, Bool, cond, List, [], ◌∷◌, ◌++◌, length, take, Ok, Err, Result, nat_lt}
 use Rattle.journal.specs.Meaning.{Section, written, forced, cut_to}
 use Rattle.presumption.specs.declared.outcome.Outcome.TheVariants.{Commit, Abort}
 use Rattle.actor.specs.Log.{marked, row}
 use Rattle.actor.specs.Post.{posted, without}
+use Rattle.actor.specs.declared.fuse.PowerCut.{PowerCut}
 use Rattle.actor.specs.declared.log.Row.{Row}
 use Rattle.station.specs.Acts.{Act, write, force, post, mark_installed, mark_dropped}
 use Rattle.station.specs.Limits.{most_revisions}
@@ -48,6 +49,10 @@ with_row c set w = cond (nat_lt (length w.log) most_revisions) (store w.journal 
 -- The fuse is below the number of acts.
 abbrev pub burns : ℕ → List Act → Bool
 burns f acts = nat_lt f (length acts)
+
+-- The answer of acts under a fuse f: how many there are, or the power cut after as many as the fuse allows.
+unfoldable pub answer_under_fuse : ℕ → List Act → Result ℕ PowerCut
+answer_under_fuse f acts = cond (burns f acts) (Err (record { after = f })) (Ok (length acts))
 
 -- Acts of station s under a fuse f: where it burns, so many acts, and then a cut with k records kept.
 unfoldable pub done_under_fuse : ℕ → List Act → ℕ → ℕ → Store → Store

@@ -2,11 +2,14 @@
 //! Debts and receipts are made and spent in this crate alone.
 #![tactic(auto)]
 
+mod actor;
 mod acts;
+mod fuse;
 mod log;
 mod perform;
 mod post;
 
-pub use acts::{Actor, Performed};
+pub use actor::Actor;
+pub use fuse::{Fuse, PowerCut};
 pub use log::Row;
 pub use station::MAX_REVISIONS;

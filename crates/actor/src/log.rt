@@ -1,15 +1,17 @@
 //! The as-run log: what became of each revision at each station. It survives power cuts.
-ghost use Rattle.std.specs.Prelude.{◌≡◌, ◌<◌, ◌≤◌, [], ◌∷◌, ◌++◌, length, IfOk, vec_len, vec_capacity};
+ghost use Rattle.std.specs.Prelude.{◌≡◌, ◌<◌, ◌≤◌, [], ◌∷◌, ◌++◌, length, IfOk};
 ghost use Rattle.std.specs.List.{slice_get};
-ghost use Rattle.actor.specs.Log.{row, marked};
+ghost use Rattle.actor.specs.Log.{row, mark_row, marked};
+ghost use Rattle.station.specs.Limits.{most_revisions};
 
 use presumption::outcome::Outcome;
 use station::MAX_REVISIONS;
 use station::sets::StationSet;
 use std::alloc::{AllocError, Global};
+use std::marker::Model;
 
-/// One revision: who coordinates it, which stations it names, where it was installed and where dropped.
-#[derive(Clone, Copy)]
+/// One revision: its coordinator, the stations it names, where it was installed, where dropped.
+#[derive(Clone, Copy, Debug, PartialEq, Eq)]
 pub struct Row {
     pub coordinator: u8,
     pub set: StationSet,
@@ -17,46 +19,66 @@ pub struct Row {
     pub dropped: StationSet,
 }
 
+impl Row {
+    // The outcome is carried out at the station.
+    fn mark(&mut self, outcome: Outcome, station: u8)
+        ensures { self.new ≡ mark_row outcome station self.old }
+    {
+        match outcome {
+            Outcome::Commit => self.installed = self.installed.insert(station),
+            Outcome::Abort => self.dropped = self.dropped.insert(station),
+        }
+    }
+}
+
 /// A row for each revision opened, in the order of their numbers.
 #[derive(Drop)]
 pub struct Log {
     rows: Vec<Row>,
-    ghost room: { 32 ≤ vec_capacity rows },
-    ghost few: { vec_len rows ≤ 32 },
+}
+
+// A clause sees the rows.
+impl Model for Log {
+    ghost use Rattle.std.specs.Prelude.{◌≤◌, List, length, vec_capacity};
+    ghost use Rattle.station.specs.Limits.{most_revisions};
+    ghost use Rattle.actor.specs.declared.log.Row.{Row};
+
+    ghost Value = { List Row };
+
+    ghost view = { λ l. l.rows.items };
+
+    ghost invariant = { λ l. (most_revisions ≤ vec_capacity l.rows)
+        × (length l.rows.items ≤ most_revisions) };
 }
 
 impl Log {
     pub fn new(heap: Global) -> Result<Log, AllocError>
-        ensures { IfOk result (λ x. x.rows.items ≡ []) }
+        ensures { IfOk result (λ x. x ≡ []) }
     {
-        let rows = Vec::with_capacity(heap, MAX_REVISIONS as usize)?;
+        let rows = Vec::with_capacity(heap, usize::from(MAX_REVISIONS))?;
         Ok(Log { rows })
     }
 
     /// How many revisions were opened.
     pub fn len(&self) -> usize
-        ensures count { result ≡ length self.now.rows.items }
-        ensures few { result ≤ 32 }
+        ensures count { result ≡ length self.now }
+        ensures few { result ≤ most_revisions }
     {
         self.rows.len()
     }
 
     pub fn row(&self, revision: u16) -> Option<Row>
-        ensures { result ≡ slice_get self.now.rows.items revision }
+        ensures { result ≡ slice_get self.now revision }
     {
-        if (revision as usize) < self.rows.len() {
-            Some(self.rows[revision as usize])
-        } else {
-            None
-        }
+        self.rows.get(usize::from(revision)).copied()
     }
 
     /// One revision more.
     pub fn add(&mut self, coordinator: u8, set: StationSet)
-        requires { length self.old.rows.items < 32 }
-        ensures { self.new.rows.items ≡ self.old.rows.items ++ row coordinator set ∷ [] }
+        requires { length self.old < most_revisions }
+        ensures { self.new ≡ self.old ++ row coordinator set ∷ [] }
     {
-        let nobody = StationSet::from_bits(0);
+        let nobody = StationSet::default();
         self.rows.push_reserved(Row {
             coordinator,
             set,
@@ -67,16 +89,10 @@ impl Log {
 
     /// Marks the revision installed or dropped at the station.
     pub fn mark(&mut self, outcome: Outcome, revision: u16, station: u8)
-        ensures { self.new.rows.items ≡ marked outcome revision station self.old.rows.items }
+        ensures { self.new ≡ marked outcome revision station self.old }
     {
-        let place = revision as usize;
-        if place < self.rows.len() {
-            let mut row = self.rows[place];
-            match outcome {
-                Outcome::Commit => row.installed = row.installed.insert(station),
-                Outcome::Abort => row.dropped = row.dropped.insert(station),
-            }
-            self.rows[place] = row;
+        if let Some(row) = self.rows.get_mut(usize::from(revision)) {
+            row.mark(outcome, station);
         }
     }
 }

@@ -1,10 +1,11 @@
 //! The steps, act by act. A power cut leaves a step by `?`.
-ghost use Rattle.std.specs.Prelude.{◌≡◌, true, false, [], ◌∷◌, ◌++◌, is_err};
+ghost use Rattle.std.specs.Prelude.{◌≡◌, [], ◌∷◌};
 ghost use Rattle.actor.specs.Acting.{after, performed};
-ghost use Rattle.actor.specs.Actors.{acting};
-ghost use Rattle.station.specs.Acts.{write, force, mark, line, if_so, outcome_kind, logged, open_vote, prepare, commit, abort, acknowledge, enforce, reject, acts};
+ghost use Rattle.actor.specs.Actors.{Changes};
+ghost use Rattle.station.specs.Acts as acts;
 
-use crate::acts::{Actor, PowerCut};
+use crate::acts::Acting;
+use crate::fuse::PowerCut;
 use journal::calls::Journal;
 use journal::records::{Kind, Record};
 use presumption::Presumption;
@@ -13,13 +14,13 @@ use station::messages::MessageKind;
 use station::sets::StationSet;
 use station::steps::Step;
 
-impl<J: Journal> Actor<J> {
-    // Writes a record and forces it.
+#[tactic(auto, using(crate::proofs::Performed::performing))]
+impl<J: Journal, P: Presumption> Acting<'_, J, P> {
+    // Writes a record and forces it. `prepare` and `decide_commit` do so openly, for the receipt.
     fn write_forced(&mut self, line: Record) -> Result<(), PowerCut>
-        requires { self.old.dark ≡ false }
-        ensures state { acting J.Journal.meaning self.new ≡ performed (write line ∷ force ∷ []) (acting J.Journal.meaning self.old) }
-        ensures dark { is_err result ≡ self.new.dark }
-        ensures here { self.new.station ≡ self.old.station }
+        ensures { Changes J.Journal.meaning
+            (performed (acts.write line ∷ acts.force ∷ []))
+            self.old result self.new }
     {
         let debt = self.write_due(line)?;
         let _receipt = self.force(debt)?;
@@ -27,64 +28,52 @@ impl<J: Journal> Actor<J> {
     }
 
     // Opens the vote.
-    fn open_vote<P: Presumption>(
-        &mut self,
-        presumption: &P,
-        revision: u16,
-        set: StationSet,
-    ) -> Result<(), PowerCut>
-        requires { self.old.dark ≡ false }
-        ensures state { acting J.Journal.meaning self.new ≡ performed (open_vote (P.Presumption.answers presumption.now) self.old.station revision set) (acting J.Journal.meaning self.old) }
-        ensures dark { is_err result ≡ self.new.dark }
+    fn open_vote(&mut self, set: StationSet) -> Result<(), PowerCut>
+        ensures { Changes J.Journal.meaning
+            (performed (acts.open_vote (P.Presumption.answers self.old.presumption.now)
+            self.old.station self.old.revision set))
+            self.old result self.new }
     {
-        if presumption.opens() {
-            self.write_forced(Record {
-                kind: Kind::Opening,
-                revision,
-                argument: set.bits(),
-            })?;
+        if self.presumption.opens() {
+            let line = self.line(Kind::Opening, u8::from(set));
+            self.write_forced(line)?;
         }
-        self.post_each(MessageKind::Prepare, revision, set)
+        self.post_each(MessageKind::Prepare, set)
     }
 
     // Writes p, forces it and votes YES.
-    fn prepare(&mut self, revision: u16, coordinator: u8, sender: u8) -> Result<(), PowerCut>
-        requires { self.old.dark ≡ false }
-        ensures state { acting J.Journal.meaning self.new ≡ performed (prepare self.old.station revision coordinator sender) (acting J.Journal.meaning self.old) }
-        ensures dark { is_err result ≡ self.new.dark }
+    fn prepare(&mut self, coordinator: u8, sender: u8) -> Result<(), PowerCut>
+        ensures { Changes J.Journal.meaning
+            (performed (acts.prepare self.old.station self.old.revision coordinator sender))
+            self.old result self.new }
     {
-        let debt = self.write_due(Record {
-            kind: Kind::Prepared,
-            revision,
-            argument: coordinator,
-        })?;
+        let line = self.line(Kind::Prepared, coordinator);
+        let debt = self.write_due(line)?;
         let receipt = self.force(debt)?;
         self.post_yes(receipt, sender)
     }
 
     // Writes C, forces it and tells the set.
-    fn decide_commit(&mut self, revision: u16, set: StationSet) -> Result<(), PowerCut>
-        requires { self.old.dark ≡ false }
-        ensures state { acting J.Journal.meaning self.new ≡ performed (commit self.old.station revision set) (acting J.Journal.meaning self.old) }
-        ensures dark { is_err result ≡ self.new.dark }
+    fn decide_commit(&mut self, set: StationSet) -> Result<(), PowerCut>
+        ensures { Changes J.Journal.meaning
+            (performed (acts.commit self.old.station self.old.revision set))
+            self.old result self.new }
     {
-        let debt = self.write_due(Record {
-            kind: Kind::Commit,
-            revision,
-            argument: set.bits(),
-        })?;
+        let line = self.line(Kind::Commit, u8::from(set));
+        let debt = self.write_due(line)?;
         let receipt = self.force(debt)?;
         self.post_commits(receipt, set)
     }
 
     // Logs an abort as the presumption says.
-    fn log_abort<P: Presumption>(&mut self, presumption: &P, line: Record) -> Result<(), PowerCut>
-        requires { self.old.dark ≡ false }
-        ensures state { acting J.Journal.meaning self.new ≡ performed (logged (P.Presumption.answers presumption.now).abort_logging line) (acting J.Journal.meaning self.old) }
-        ensures dark { is_err result ≡ self.new.dark }
-        ensures here { self.new.station ≡ self.old.station }
+    fn log_abort(&mut self, set: StationSet) -> Result<(), PowerCut>
+        ensures { Changes J.Journal.meaning
+            (performed (acts.logged (P.Presumption.answers self.old.presumption.now).abort_logging
+            (acts.line Kind.Abort self.old.revision set.bits)))
+            self.old result self.new }
     {
-        match presumption.abort_logging() {
+        let line = self.line(Kind::Abort, u8::from(set));
+        match self.presumption.abort_logging() {
             Logging::NotAtAll => Ok(()),
             Logging::Unforced => self.write(line),
             Logging::Forced => self.write_forced(line),
@@ -92,63 +81,41 @@ impl<J: Journal> Actor<J> {
     }
 
     // Logs the abort, tells some, and ends at once where nobody is awaited.
-    fn decide_abort<P: Presumption>(
-        &mut self,
-        presumption: &P,
-        revision: u16,
-        set: StationSet,
-        told: StationSet,
-    ) -> Result<(), PowerCut>
-        requires { self.old.dark ≡ false }
-        ensures state { acting J.Journal.meaning self.new ≡ performed (abort (P.Presumption.answers presumption.now) self.old.station revision set told) (acting J.Journal.meaning self.old) }
-        ensures dark { is_err result ≡ self.new.dark }
+    fn decide_abort(&mut self, set: StationSet, told: StationSet) -> Result<(), PowerCut>
+        ensures { Changes J.Journal.meaning
+            (performed (acts.abort (P.Presumption.answers self.old.presumption.now)
+            self.old.station self.old.revision set told))
+            self.old result self.new }
     {
-        let line = Record {
-            kind: Kind::Abort,
-            revision,
-            argument: set.bits(),
-        };
-        self.log_abort(presumption, line)?;
-        self.post_each(MessageKind::Abort, revision, told)?;
-        if presumption.acknowledges(Outcome::Abort) && told.is_empty() {
-            self.end(revision)?;
+        self.log_abort(set)?;
+        self.post_each(MessageKind::Abort, told)?;
+        if self.presumption.acknowledges(Outcome::Abort) && told.is_empty() {
+            self.end()?;
         }
         Ok(())
     }
 
     // Writes E.
-    fn end(&mut self, revision: u16) -> Result<(), PowerCut>
-        requires { self.old.dark ≡ false }
-        ensures state { acting J.Journal.meaning self.new ≡ after (write (line Kind.End revision 0)) (acting J.Journal.meaning self.old) }
-        ensures dark { is_err result ≡ self.new.dark }
+    fn end(&mut self) -> Result<(), PowerCut>
+        ensures { Changes J.Journal.meaning
+            (after (acts.write (acts.line Kind.End self.old.revision 0)))
+            self.old result self.new }
     {
-        self.write(Record {
-            kind: Kind::End,
-            revision,
-            argument: 0,
-        })
+        let line = self.line(Kind::End, 0);
+        self.write(line)
     }
 
     // Marks the outcome, then writes its record and forces it if it is forced.
-    fn record_outcome<P: Presumption>(
-        &mut self,
-        presumption: &P,
-        revision: u16,
-        outcome: Outcome,
-        coordinator: u8,
-    ) -> Result<(), PowerCut>
-        requires { self.old.dark ≡ false }
-        ensures state { acting J.Journal.meaning self.new ≡ performed (mark outcome revision ∷ write (line (outcome_kind outcome) revision coordinator) ∷ if_so ((P.Presumption.answers presumption.now).forces outcome) (force ∷ [])) (acting J.Journal.meaning self.old) }
-        ensures dark { is_err result ≡ self.new.dark }
-        ensures here { self.new.station ≡ self.old.station }
+    fn record_outcome(&mut self, outcome: Outcome, coordinator: u8) -> Result<(), PowerCut>
+        ensures { Changes J.Journal.meaning
+            (performed (acts.mark outcome self.old.revision
+            ∷ acts.write (acts.line (acts.outcome_kind outcome) self.old.revision coordinator)
+            ∷ acts.if_so ((P.Presumption.answers self.old.presumption.now).forces outcome) (acts.force ∷ [])))
+            self.old result self.new }
     {
-        self.mark(outcome, revision)?;
-        let line = Record {
-            kind: outcome_record(outcome),
-            revision,
-            argument: coordinator,
-        };
-        if presumption.forces(outcome) {
+        self.mark(outcome)?;
+        let line = self.line(outcome_record(outcome), coordinator);
+        if self.presumption.forces(outcome) {
             self.write_forced(line)
         } else {
             self.write(line)
@@ -156,86 +123,64 @@ impl<J: Journal> Actor<J> {
     }
 
     // Acknowledges the outcome, if it is acknowledged.
-    fn acknowledge<P: Presumption>(
-        &mut self,
-        presumption: &P,
-        revision: u16,
-        outcome: Outcome,
-        receiver: u8,
-    ) -> Result<(), PowerCut>
-        requires { self.old.dark ≡ false }
-        ensures state { acting J.Journal.meaning self.new ≡ performed (acknowledge (P.Presumption.answers presumption.now) self.old.station revision outcome receiver) (acting J.Journal.meaning self.old) }
-        ensures dark { is_err result ≡ self.new.dark }
+    fn acknowledge(&mut self, outcome: Outcome, receiver: u8) -> Result<(), PowerCut>
+        ensures { Changes J.Journal.meaning
+            (performed (acts.acknowledge (P.Presumption.answers self.old.presumption.now)
+            self.old.station self.old.revision outcome receiver))
+            self.old result self.new }
     {
-        if presumption.acknowledges(outcome) {
-            self.post(MessageKind::Ack, revision, receiver)?;
+        if self.presumption.acknowledges(outcome) {
+            self.post(MessageKind::Ack, receiver)?;
         }
         Ok(())
     }
 
     // Carries the outcome out: the mark comes before its record.
-    fn enforce<P: Presumption>(
-        &mut self,
-        presumption: &P,
-        revision: u16,
-        outcome: Outcome,
-        coordinator: u8,
-    ) -> Result<(), PowerCut>
-        requires { self.old.dark ≡ false }
-        ensures state { acting J.Journal.meaning self.new ≡ performed (enforce (P.Presumption.answers presumption.now) self.old.station revision outcome coordinator) (acting J.Journal.meaning self.old) }
-        ensures dark { is_err result ≡ self.new.dark }
+    fn enforce(&mut self, outcome: Outcome, coordinator: u8) -> Result<(), PowerCut>
+        ensures { Changes J.Journal.meaning
+            (performed (acts.enforce (P.Presumption.answers self.old.presumption.now)
+            self.old.station self.old.revision outcome coordinator))
+            self.old result self.new }
     {
-        self.record_outcome(presumption, revision, outcome, coordinator)?;
-        self.acknowledge(presumption, revision, outcome, coordinator)
+        self.record_outcome(outcome, coordinator)?;
+        self.acknowledge(outcome, coordinator)
     }
 
-    /// Performs a step of the acting station for a revision.
-    pub(crate) fn perform<P: Presumption>(
-        &mut self,
-        presumption: &P,
-        revision: u16,
-        step: Step,
-    ) -> Result<(), PowerCut>
-        requires { self.old.dark ≡ false }
-        ensures state { acting J.Journal.meaning self.new ≡ performed (acts (P.Presumption.answers presumption.now) self.old.station revision step) (acting J.Journal.meaning self.old) }
-        ensures dark { is_err result ≡ self.new.dark }
+    /// Performs the acts of a step.
+    pub(crate) fn perform(&mut self, step: Step) -> Result<(), PowerCut>
+        ensures { Changes J.Journal.meaning
+            (performed (acts.acts (P.Presumption.answers self.old.presumption.now)
+            self.old.station self.old.revision step))
+            self.old result self.new }
     {
         match step {
             Step::Rest => Ok(()),
-            Step::OpenVote { set } => self.open_vote(presumption, revision, set),
+            Step::OpenVote { set } => self.open_vote(set),
             Step::Prepare {
                 coordinator,
                 sender,
-            } => self.prepare(revision, coordinator, sender),
-            Step::RepeatYes { vote, sender } => self.repeat_yes(vote, revision, sender),
-            Step::VoteNo { sender } => self.post(MessageKind::No, revision, sender),
-            Step::DecideCommit { set } => self.decide_commit(revision, set),
-            Step::DecideAbort { set, told } => {
-                self.decide_abort(presumption, revision, set, told)
-            }
+            } => self.prepare(coordinator, sender),
+            Step::RepeatYes { vote, sender } => self.repeat_yes(vote, sender),
+            Step::VoteNo { sender } => self.post(MessageKind::No, sender),
+            Step::DecideCommit { set } => self.decide_commit(set),
+            Step::DecideAbort { set, told } => self.decide_abort(set, told),
             Step::Enforce {
                 outcome,
                 coordinator,
-            } => self.enforce(presumption, revision, outcome, coordinator),
-            Step::Acknowledge { outcome, sender } => {
-                self.acknowledge(presumption, revision, outcome, sender)
-            }
-            Step::End => self.end(revision),
-            Step::Tell { known, sender } => self.tell(known, revision, sender),
-            Step::Chase { known, awaited } => self.tell_each(known, revision, awaited),
-            Step::Inquire { coordinator } => {
-                self.post(MessageKind::Inquiry, revision, coordinator)
-            }
-            Step::Reject { coordinator } => {
-                self.record_outcome(presumption, revision, Outcome::Abort, coordinator)
-            }
+            } => self.enforce(outcome, coordinator),
+            Step::Acknowledge { outcome, sender } => self.acknowledge(outcome, sender),
+            Step::End => self.end(),
+            Step::Tell { known, sender } => self.tell(known, sender),
+            Step::Chase { known, awaited } => self.tell_each(known, awaited),
+            Step::Inquire { coordinator } => self.post(MessageKind::Inquiry, coordinator),
+            Step::Reject { coordinator } => self.record_outcome(Outcome::Abort, coordinator),
         }
     }
 }
 
-// The subordinate's record of an outcome.
+// The subordinate's record of an outcome. No `From`, since neither type is this crate's.
 fn outcome_record(outcome: Outcome) -> Kind
-    ensures { result ≡ outcome_kind outcome }
+    ensures { result ≡ acts.outcome_kind outcome }
 {
     match outcome {
         Outcome::Commit => Kind::Committed,

@@ -1,10 +1,11 @@
 //! The post: the messages that wait, in posting order.
-ghost use Rattle.std.specs.Prelude.{◌≡◌, ◌≤◌, [], length, IfOk, vec_len, vec_capacity};
+ghost use Rattle.std.specs.Prelude.{◌≡◌, ◌≤◌, [], length, IfOk};
 ghost use Rattle.std.specs.List.{slice_get};
-ghost use Rattle.actor.specs.Post.{posted, without};
+ghost use Rattle.actor.specs.Post.{most_waiting, posted, without};
 
 use station::messages::Message;
 use std::alloc::{AllocError, Global};
+use std::marker::Model;
 
 /// The most messages that can wait.
 pub const MAX_WAITING: usize = 64;
@@ -12,13 +13,25 @@ pub const MAX_WAITING: usize = 64;
 #[derive(Drop)]
 pub struct Post {
     messages: Vec<Message>,
-    ghost room: { 64 ≤ vec_capacity messages },
-    ghost few: { vec_len messages ≤ 64 },
+}
+
+// A clause sees the messages that wait.
+impl Model for Post {
+    ghost use Rattle.std.specs.Prelude.{◌≤◌, List, length, vec_capacity};
+    ghost use Rattle.actor.specs.Post.{most_waiting};
+    ghost use Rattle.station.specs.declared.messages.Message.{Message};
+
+    ghost Value = { List Message };
+
+    ghost view = { λ p. p.messages.items };
+
+    ghost invariant = { λ p. (most_waiting ≤ vec_capacity p.messages)
+        × (length p.messages.items ≤ most_waiting) };
 }
 
 impl Post {
     pub fn new(heap: Global) -> Result<Post, AllocError>
-        ensures { IfOk result (λ x. x.messages.items ≡ []) }
+        ensures { IfOk result (λ x. x ≡ []) }
     {
         let messages = Vec::with_capacity(heap, MAX_WAITING)?;
         Ok(Post { messages })
@@ -26,26 +39,22 @@ impl Post {
 
     /// How many messages wait.
     pub fn len(&self) -> usize
-        ensures count { result ≡ length self.now.messages.items }
-        ensures few { result ≤ 64 }
+        ensures count { result ≡ length self.now }
+        ensures few { result ≤ most_waiting }
     {
         self.messages.len()
     }
 
     /// The message that waits at a place.
     pub fn message(&self, place: usize) -> Option<Message>
-        ensures { result ≡ slice_get self.now.messages.items place }
+        ensures { result ≡ slice_get self.now place }
     {
-        if place < self.messages.len() {
-            Some(self.messages[place])
-        } else {
-            None
-        }
+        self.messages.get(place).copied()
     }
 
     /// Posts a message; it is lost where as many wait as can.
     pub fn add(&mut self, message: Message)
-        ensures { self.new.messages.items ≡ posted message self.old.messages.items }
+        ensures { self.new ≡ posted message self.old }
     {
         if self.messages.len() < MAX_WAITING {
             self.messages.push_reserved(message);
@@ -54,7 +63,7 @@ impl Post {
 
     /// Removes the message at a place.
     pub fn remove(&mut self, place: usize)
-        ensures { self.new.messages.items ≡ without place self.old.messages.items }
+        ensures { self.new ≡ without place self.old }
     {
         if place < self.messages.len() {
             self.messages.remove(place);

@@ -21,12 +21,12 @@ use Rattle.station.specs.declared.messages.MessageKind.TheVariants as message
 use Rattle.station.specs.declared.subordinate.SubordinateEntry.{SubordinateEntry}
 use Rattle.station.specs.declared.subordinate.SubordinateEntry.TheVariants as subordinate
 use Rattle.run.specs.State.{State, cut_off}
-use Rattle.stations.specs.Stations.{rebuilt, power_at, coordinator_at, subordinate_at}
+use Rattle.stations.specs.Stations.{no_entries, entries_for, resumed, rebuilt, power_at, coordinator_at, subordinate_at}
+use Rattle.stations.specs.declared.Entries.{Entries}
 use Rattle.stations.specs.declared.Turn.TheVariants as turn
 use Rattle.assurance.proofs.Ideal as ideal
 use Rattle.station.specs.Acts.{letter}
 use Rattle.station.specs.Coordinator.{announcing, close_move, give_up_move, chase_move, unheard}
-use Rattle.std.specs.List.{range_with_len}
 use Rattle.assurance.proofs.Every.{Full}
 use Rattle.assurance.proofs.View.{kind_as, outcome_as, mail_as, record_as, message_as, co_as, sub_as, station_as, view}
 use Rattle.std.proofs.ByRecursion.{All-get_or}
@@ -221,7 +221,7 @@ module _ (π : Answers) (𝓗 : Lawful π) (n : ℕ) (two : 2 ≤ n) (eight : n 
   left_good i true = g
   left_good i false =
       record {
-        shape = record { fit = g.shape.fit; some = g.shape.some; small = g.shape.small; stations = g.shape.stations; journals = g.shape.journals; wide = g.shape.wide; cos = g.shape.cos; subs = g.shape.subs; sets = g.shape.sets };
+        shape = record { fit = g.shape.fit; some = g.shape.some; small = g.shape.small; stations = g.shape.stations; journals = g.shape.journals; wide = g.shape.wide; entries = g.shape.entries; sets = g.shape.sets };
         full = subst (Full Q (laws π 𝓗 n two eight)) (sym (left_view i false)) (full_call Q (laws π 𝓗 n two eight) (ideal.lose i) V g.full);
       }
 
@@ -342,6 +342,17 @@ module _ (π : Answers) (𝓗 : Lawful π) (n : ℕ) (two : 2 ≤ n) (eight : n 
     sub_past : (r : ℕ) → 32 ≤ r → ideal.idle ≡ ideal.doubtful Q M r
     sub_past r b = ap (λ (c : Bool). cond (c && not (ideal.has ideal.kc r M || ideal.has ideal.ka r M)) (ideal.Prepared (ideal.argument_of ideal.kp r M)) ideal.idle) (sym (none_past r b ideal.kp))
 
+    rebuilt_entries : length (rebuilt π L).entries ≡ 32
+    unfolding rebuilt
+    rebuilt_entries = length-map-range_with_len (resumed π L) 0 32
+
+    rebuilt_at : (r : ℕ) → r < 32 → entries_for r (rebuilt π L) ≡ resumed π L r
+    unfolding rebuilt
+    rebuilt_at r l = get_or-map-range_with_len (resumed π L) 0 32 r r no_entries l (omega arith)
+
+    rebuilt_past : (r : ℕ) → 32 ≤ r → entries_for r (rebuilt π L) ≡ no_entries
+    rebuilt_past r l = get_or_past (rebuilt π L).entries r no_entries (omega (arith, rebuilt_entries))
+
     rebuilt_as : station_as n s (section st.store.journal s) (rebuilt π L) ≡ ideal.restarted_station Q (V.station s)
     unfolding rebuilt
     rebuilt_as =
@@ -350,27 +361,19 @@ module _ (π : Answers) (𝓗 : Lawful π) (n : ℕ) (two : 2 ≤ n) (eight : n 
           stable = M;
           loose = (V.station s).loose;
           coordinators = fun_ext (λ r. elim (cases_lt r 32) [
-            | inl l ↦ ap co_as (get_or-map-range_with_len (λ q. resumed_coordinator π q L) 0 32 r r coordinator.None l (omega arith)) ∙ resumed_co r
-            | inr l ↦ ap co_as (get_or_past (map (λ q. resumed_coordinator π q L) (range_with_len 0 32)) r coordinator.None (omega (arith, length-map-range_with_len (λ q. resumed_coordinator π q L) 0 32))) ∙ co_past r l
+            | inl l ↦ ap (λ (z : Entries). co_as z.coordinator) (rebuilt_at r l) ∙ resumed_co r
+            | inr l ↦ ap (λ (z : Entries). co_as z.coordinator) (rebuilt_past r l) ∙ co_past r l
           ]) i;
           subordinates = fun_ext (λ r. elim (cases_lt r 32) [
-            | inl l ↦ ap sub_as (get_or-map-range_with_len (λ q. resumed_subordinate q L) 0 32 r r subordinate.None l (omega arith)) ∙ resumed_sub r
-            | inr l ↦ ap sub_as (get_or_past (map (λ q. resumed_subordinate q L) (range_with_len 0 32)) r subordinate.None (omega (arith, length-map-range_with_len (λ q. resumed_subordinate q L) 0 32))) ∙ sub_past r l
+            | inl l ↦ ap (λ (z : Entries). sub_as z.subordinate) (rebuilt_at r l) ∙ resumed_sub r
+            | inr l ↦ ap (λ (z : Entries). sub_as z.subordinate) (rebuilt_past r l) ∙ sub_past r l
           ]) i;
         }
-
-    rebuilt_cos : length (rebuilt π L).coordinators ≡ 32
-    unfolding rebuilt
-    rebuilt_cos = length-map-range_with_len (λ q. resumed_coordinator π q L) 0 32
-
-    rebuilt_subs : length (rebuilt π L).subordinates ≡ 32
-    unfolding rebuilt
-    rebuilt_subs = length-map-range_with_len (λ q. resumed_subordinate q L) 0 32
 
     restarts : To (restarted π s st) (ideal.at_station s (ideal.restarted_station Q) V)
     restarts = (
       ap (λ (f : ℕ → ideal.Station). record { station = f; post = V.post; plan = V.plan; count = V.count; installed_at = V.installed_at; dropped_at = V.dropped_at }) (in_stations n (rebuilt π L) (ideal.restarted_station Q (V.station s)) s st h g.shape rebuilt_as),
-      shape_station n (rebuilt π L) s st h rebuilt_cos rebuilt_subs g.shape,
+      shape_station n (rebuilt π L) s st h rebuilt_entries g.shape,
     )
 
   pub restart_view : (s : ℕ) → To (restart_call π s st).state (ideal.call Q (ideal.restart s) V)

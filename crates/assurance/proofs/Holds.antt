@@ -1,5 +1,5 @@
 -- What holds of the ideal run, said of a run.
-use Rattle.std.proofs.Common.{◌≡◌, ℕ, zero, suc, ◌+◌, ◌*◌, ◌^◌, ◌<◌, ◌≤◌, Bool, true, false, cond, not, ◌&&◌, eqb, ltb, leb, ◌↔◌, List, [], ◌∷◌, map, length, get_or, sym, refl, ap, ◌∙◌, subst, inl, inr, mul-le-mul_right, arith}
+use Rattle.std.proofs.Common.{◌≡◌, ℕ, zero, suc, ◌+◌, ◌*◌, ◌^◌, ◌<◌, ◌≤◌, Bool, true, false, cond, not, ◌&&◌, eqb, ltb, leb, ◌↔◌, List, [], ◌∷◌, map, length, sym, refl, ap, ◌∙◌, subst, inl, inr, mul-le-mul_right, arith}
 use lib.ListN.{length-map}
 use Rattle.std.proofs.lemmas.Bool.{cond-true, cond-false, cases_lt, eqb-true, and_parts, ltb-true, leb-true, le-ltb, lt-ltb}
 use Rattle.std.proofs.lemmas.List.{get_or_past, nil_from_length}
@@ -8,7 +8,6 @@ use Rattle.journal.specs.Meaning.{Section, section, held, no_section}
 use Rattle.journal.specs.declared.records.Kind.{Kind}
 use Rattle.journal.specs.declared.records.Kind.TheVariants as kind
 use Rattle.presumption.specs.Answers.{Answers, Lawful}
-use Rattle.station.specs.declared.coordinator.CoordinatorEntry.TheVariants as coordinator
 use Rattle.station.specs.declared.subordinate.SubordinateEntry.TheVariants as subordinate
 use Rattle.run.specs.State.{State, fits}
 use Rattle.stations.specs.Stations.{station_at, no_station, power_at}
@@ -27,17 +26,18 @@ use Rattle.run.specs.Answers.{answered}
 use Rattle.run.specs.Calls.{reply, refuse, coordinator_of}
 use Rattle.assurance.specs.declared.calls.Call.{Call}
 use Rattle.assurance.specs.declared.calls.Call.TheVariants.{Open, Close, Settle}
-use Rattle.assurance.specs.Lists.{called, after_calls}
+use Rattle.assurance.specs.Lists.{lasting, called, after_calls}
 use Rattle.run.specs.Settling.{settled}
 use Rattle.run.specs.State.{ready, all_ready, fresh}
-use Rattle.stations.specs.Stations.{subordinate_at, blank, all_power}
+use Rattle.stations.specs.Stations.{no_entries, entries_for, subordinate_at, blank, all_power}
+use Rattle.stations.specs.declared.Entries.{Entries}
 use Rattle.station.specs.Sets.{below}
 use Rattle.assurance.proofs.Every.{full_new}
 use Rattle.assurance.proofs.Rules.{counting_below}
 use Rattle.assurance.proofs.Claims as told
 use Rattle.assurance.proofs.Proved.{begin, together}
 use Rattle.assurance.proofs.Moves.{presumes, laws, Within, members_as, Good}
-use Rattle.assurance.proofs.Performed.{same_entry, blank_cos, blank_subs}
+use Rattle.assurance.proofs.Performed.{same_entry, blank_entries}
 use Rattle.assurance.proofs.Opened.{fits_as}
 use Rattle.assurance.proofs.Listed.{call_as, call_view, calls_view, settled_view}
 use Rattle.assurance.proofs.Written.{unrefused}
@@ -75,13 +75,13 @@ blank_at m s e =
       | inr l ↦ subst Blank (sym (get_or_past m s no_section l)) (record { stable = refl; unforced = refl })
     ]
 
-blank_co : (r : ℕ) → co_as (get_or (blank true).coordinators r coordinator.None) ≡ ideal.none
+blank_co : (r : ℕ) → co_as (entries_for r (blank true)).coordinator ≡ ideal.none
 unfolding blank
-blank_co r = ap co_as (same_entry 0 32 r coordinator.None)
+blank_co r = ap (λ (z : Entries). co_as z.coordinator) (same_entry 0 32 r no_entries)
 
-blank_sub : (r : ℕ) → sub_as (get_or (blank true).subordinates r subordinate.None) ≡ ideal.idle
+blank_sub : (r : ℕ) → sub_as (entries_for r (blank true)).subordinate ≡ ideal.idle
 unfolding blank
-blank_sub r = ap sub_as (same_entry 0 32 r subordinate.None)
+blank_sub r = ap (λ (z : Entries). sub_as z.subordinate) (same_entry 0 32 r no_entries)
 
 blank_power : (blank true).power ≡ true
 unfolding blank
@@ -148,8 +148,7 @@ module _ (π : Answers) (𝓗 : Lawful π) (m : List Section) (ok : fits m ≡ t
           stations = length-replicate n (blank true);
           journals = refl;
           wide = λ s l. (ready_at m s sizes.2 l).1;
-          cos = λ s l. ap (λ (y : Station). length y.coordinators) (one_station s l) ∙ blank_cos 0 true;
-          subs = λ s l. ap (λ (y : Station). length y.subordinates) (one_station s l) ∙ blank_subs 0 true;
+          entries = λ s l. ap (λ (y : Station). length y.entries) (one_station s l) ∙ blank_entries 0 true;
           sets = λ r l. absurd (omega arith);
         };
         full = subst (Full Q 𝓛) (sym fresh_view) (full_new Q 𝓛 (begin Q 𝓛));
@@ -261,7 +260,7 @@ module _ (π : Answers) (𝓗 : Lawful π) (m : List Section) (ok : fits m ≡ t
 
   pub four_each : FourEach π m
   four_each c x e =
-      let two_calls = Open c x ∷ Close 0 255 0 ∷ [] in
+      let two_calls = Open c x ∷ Close 0 lasting ∷ [] in
       let f : ideal.fits n c x.bits ≡ true = sym (fits_as n c x) ∙ subst (λ (k : ℕ). (ltb c k && (not (empty x) && below x k)) ≡ true) (length-replicate n (blank true)) e in
       let q = calls_view π 𝓗 n sizes.0 sizes.1 two_calls (fresh m) fresh_good in
       let l = map (call_as π 𝓗 n sizes.0 sizes.1) two_calls in

@@ -180,12 +180,12 @@ module _ (π : Answers) (𝓗 : Lawful π) (n : ℕ) (two : 2 ≤ n) (eight : n 
   -- every call
   abbrev pub call_as : Call → ideal.Call
   call_as (calls.Open c x) = ideal.open_revision c x.bits
-  call_as (calls.Close r f k) = ideal.close r f k
-  call_as (calls.GiveUp r f k) = ideal.give_up r f k
-  call_as (calls.Chase r f k) = ideal.chase r f k
-  call_as (calls.Reject r s f k) = ideal.reject r s f k
-  call_as (calls.Inquire r s f k) = ideal.inquire r s f k
-  call_as (calls.Deliver i copy f k) = ideal.deliver i copy f k
+  call_as (calls.Close r f) = ideal.close r f.acts f.kept
+  call_as (calls.GiveUp r f) = ideal.give_up r f.acts f.kept
+  call_as (calls.Chase r f) = ideal.chase r f.acts f.kept
+  call_as (calls.Reject r s f) = ideal.reject r s f.acts f.kept
+  call_as (calls.Inquire r s f) = ideal.inquire r s f.acts f.kept
+  call_as (calls.Deliver i copy f) = ideal.deliver i copy f.acts f.kept
   call_as (calls.Lose i) = ideal.lose i
   call_as (calls.Cut s k) = ideal.cut s k
   call_as (calls.Restart s) = ideal.restart s
@@ -194,12 +194,12 @@ module _ (π : Answers) (𝓗 : Lawful π) (n : ℕ) (two : 2 ≤ n) (eight : n 
 
   pub call_view : (c : Call) (st : State) → Fine st → To (called π c st).state (ideal.call Q (call_as c) (view n st))
   call_view (calls.Open c x) st g = open_view π 𝓗 n two eight st g c x
-  call_view (calls.Close r f k) st g = close_view π 𝓗 n two eight st g r f k
-  call_view (calls.GiveUp r f k) st g = give_up_view π 𝓗 n two eight st g r f k
-  call_view (calls.Chase r f k) st g = chase_view π 𝓗 n two eight st g r f k
-  call_view (calls.Reject r s f k) st g = reject_view π 𝓗 n two eight st g r s f k
-  call_view (calls.Inquire r s f k) st g = inquire_view π 𝓗 n two eight st g r s f k
-  call_view (calls.Deliver i copy f k) st g = deliver_view π 𝓗 n two eight st g i copy f k
+  call_view (calls.Close r f) st g = close_view π 𝓗 n two eight st g r f.acts f.kept
+  call_view (calls.GiveUp r f) st g = give_up_view π 𝓗 n two eight st g r f.acts f.kept
+  call_view (calls.Chase r f) st g = chase_view π 𝓗 n two eight st g r f.acts f.kept
+  call_view (calls.Reject r s f) st g = reject_view π 𝓗 n two eight st g r s f.acts f.kept
+  call_view (calls.Inquire r s f) st g = inquire_view π 𝓗 n two eight st g r s f.acts f.kept
+  call_view (calls.Deliver i copy f) st g = deliver_view π 𝓗 n two eight st g i copy f.acts f.kept
   call_view (calls.Lose i) st g = lose_view π 𝓗 n two eight st g i
   call_view (calls.Cut s k) st g = cut_call_view π 𝓗 n two eight st g s k
   call_view (calls.Restart s) st g = restart_view π 𝓗 n two eight st g s

@@ -3,32 +3,31 @@ use Rattle.std.proofs.Common.{◌≡◌, ℕ, zero, suc, ◌+◌, ◌/◌, ◌^�
 use mathlib.Core.Path.{fun_ext}
 use Rattle.std.proofs.lemmas.Bool.Decides.{nat_tests}
 use Rattle.std.proofs.lemmas.Bool.{cond-true, cond-false, cases_Bool, cases_eq, cases_lt, true≢false, eq-eqb, ne_eqb, and_parts, not-true, lt-ltb, le-ltb, ltb-true}
-use Rattle.std.proofs.lemmas.List.{get_or_past, get_or_push, length_push}
+use Rattle.std.proofs.lemmas.List.{get_or_past, get_or_push, length_push, set_past}
 use Rattle.std.specs.List.{AllByRecursion, range_with_len}
 use Rattle.journal.specs.Meaning.{section}
 use Rattle.presumption.specs.Answers.{Answers, Lawful}
 use Rattle.station.specs.Sets.{of_bits}
-use Rattle.station.specs.declared.coordinator.CoordinatorEntry.TheVariants as coordinator
 use Rattle.station.specs.declared.sets.StationSet.{StationSet}
-use Rattle.station.specs.declared.subordinate.SubordinateEntry.{SubordinateEntry}
 use Rattle.station.specs.declared.subordinate.SubordinateEntry.TheVariants as subordinate
 use Rattle.actor.specs.Log.{row_at, row}
 use Rattle.actor.specs.Store.{Store, store}
 use Rattle.actor.specs.declared.log.Row.{Row}
 use Rattle.run.specs.State.{State, with_stations}
 use Rattle.stations.specs.Stations.{station_at, no_station, power_at}
+use Rattle.stations.specs.declared.Entries.{Entries}
 use Rattle.stations.specs.declared.Station.{Station}
 use Rattle.stations.specs.declared.Turn.TheVariants as turn
 use Rattle.assurance.proofs.Ideal as ideal
 use Rattle.station.specs.Sets.{empty, members}
 use Rattle.assurance.proofs.Sets.{mem_below}
-use Rattle.assurance.proofs.View.{co_as, sub_as, station_as, net_of, plan_of, parts, view, Shape}
+use Rattle.assurance.proofs.View.{station_as, net_of, plan_of, parts, view, Shape, co_changed, sub_changed}
 use native.Mathlib.Nat.{div-eq_of_lt}
 use Rattle.station.specs.declared.coordinator.CoordinatorEntry.TheVariants.{Open}
 use lib.ListN.{get_or-append}
 use Rattle.run.specs.Answers.{answered}
 use Rattle.run.specs.Calls.{reply, refuse, open_call, opened}
-use Rattle.stations.specs.Stations.{set_coordinator, set_subordinate, with_coordinator, with_subordinate, all_power, activated}
+use Rattle.stations.specs.Stations.{no_entries, entries_for, turned, set_coordinator, set_subordinate, with_coordinator, with_subordinate, all_power, activated}
 use Rattle.station.specs.Sets.{below}
 use Rattle.actor.specs.Store.{with_row}
 use Rattle.assurance.proofs.Rules.{members_below}
@@ -83,7 +82,15 @@ abbrev F : ℕ → ℕ → Station → Station
 F r c y = set_subordinate r (subordinate.Active c) y
 
 twice : (r c : ℕ) (y : Station) → F r c (F r c y) ≡ F r c y
-twice r c y = ap (λ (l : List SubordinateEntry). record { power = y.power; coordinators = y.coordinators; subordinates = l }) (set-set y.subordinates r (subordinate.Active c) (subordinate.Active c))
+twice r c y =
+    ap (λ (l : List Entries). record { power = y.power; entries = l })
+    (elim (cases_lt r (length y.entries)) [
+      | inl l ↦ ap (λ (e : Entries). set (F r c y).entries r (turned (turn.Subordinate (subordinate.Active c)) e)) (get_or-set_same y.entries r once no_entries l) ∙ set-set y.entries r once once
+      | inr l ↦ ap (λ (es : List Entries). set es r (turned (turn.Subordinate (subordinate.Active c)) (get_or es r no_entries))) (set_past y.entries r once l)
+    ])
+  where
+    once : Entries
+    once = turned (turn.Subordinate (subordinate.Active c)) (entries_for r y)
 
 activated_at : (r c s n : ℕ) (ms : List ℕ) (xs : List Station) → length xs ≡ n → AllByRecursion (λ (m : ℕ). m < n) ms → station_at (activated r c ms xs) s ≡ cond (among s ms) (F r c (station_at xs s)) (station_at xs s)
 unfolding activated
@@ -103,7 +110,7 @@ activated_at r c s n (m ∷ ms) xs e h =
 
 activated_shape : (n r c : ℕ) (ms : List ℕ) (u : State) → AllByRecursion (λ (m : ℕ). m < n) ms → Shape n u → Shape n (with_stations (activated r c ms u.stations) u)
 unfolding activated
-activated_shape n r c [] u h k = record { fit = k.fit; some = k.some; small = k.small; stations = k.stations; journals = k.journals; wide = k.wide; cos = k.cos; subs = k.subs; sets = k.sets }
+activated_shape n r c [] u h k = record { fit = k.fit; some = k.some; small = k.small; stations = k.stations; journals = k.journals; wide = k.wide; entries = k.entries; sets = k.sets }
 activated_shape n r c (m ∷ ms) u h k = activated_shape n r c ms (with_stations (with_subordinate m r (subordinate.Active c) u.stations) u) h.1 (shape_turn n m r (turn.Subordinate (subordinate.Active c)) u h.0 k)
 
 -- powers
@@ -174,23 +181,15 @@ module _ (π : Answers) (𝓗 : Lawful π) (n : ℕ) (two : 2 ≤ n) (eight : n 
     among_is : (s : ℕ) → among s (members x) ≡ ideal.in_set x.bits s
     among_is s = ap (among s) (members_as n x eight w) ∙ among_members n x.bits s w
 
-    -- an entry more at a station that is there
-    co_more : (s : ℕ) → s < n → (λ q. co_as (get_or (set (station_at st.stations s).coordinators R (Open x)) q coordinator.None)) ≡ ideal.updated (V.station s).coordinators R (ideal.Open x.bits)
-    co_more s i =
-        let k = (station_at st.stations s).coordinators in
-        fun_at (V.station s).coordinators (λ q. co_as (get_or (set k R (Open x)) q coordinator.None)) R (ideal.Open x.bits)
-        (ap co_as (get_or-set_same k R (Open x) coordinator.None (omega (arith, g.shape.cos s i))))
-        (λ q d. ap co_as (get_or-set_other k R q (Open x) coordinator.None (λ z. d (sym z))))
-
-    sub_more : (s : ℕ) → s < n → (λ q. sub_as (get_or (set (station_at st.stations s).subordinates R (subordinate.Active c)) q subordinate.None)) ≡ ideal.updated (V.station s).subordinates R (ideal.Active c)
-    sub_more s i =
-        let k = (station_at st.stations s).subordinates in
-        fun_at (V.station s).subordinates (λ q. sub_as (get_or (set k R (subordinate.Active c)) q subordinate.None)) R (ideal.Active c)
-        (ap sub_as (get_or-set_same k R (subordinate.Active c) subordinate.None (omega (arith, g.shape.subs s i))))
-        (λ q d. ap sub_as (get_or-set_other k R q (subordinate.Active c) subordinate.None (λ z. d (sym z))))
-
     abbrev G : Station → Station
     G y = set_coordinator R (Open x) y
+
+    -- an entry more at a station that is there
+    co_more : (s : ℕ) → s < n → station_as n s (section st.store.journal s) (G (station_at st.stations s)) ≡ ideal.set_coordinator R (ideal.Open x.bits) (V.station s)
+    co_more s i = co_changed n s R (section st.store.journal s) (station_at st.stations s) (omega (arith, g.shape.entries s i)) (Open x)
+
+    sub_more : (s : ℕ) → s < n → (y : Station) → length y.entries ≡ 32 → station_as n s (section st.store.journal s) (F R c y) ≡ ideal.set_subordinate R (ideal.Active c) (station_as n s (section st.store.journal s) y)
+    sub_more s i y e = sub_changed n s R (section st.store.journal s) y (omega (arith, e)) (subordinate.Active c)
 
     first_at : (s : ℕ) → station_at Xs s ≡ cond (eqb c s) (G (station_at st.stations s)) (station_at st.stations s)
     first_at s =
@@ -208,9 +207,12 @@ module _ (π : Answers) (𝓗 : Lawful π) (n : ℕ) (two : 2 ≤ n) (eight : n 
       where
         near : s < n → (a b : Bool) → station_as n s (section st.store.journal s) (cond b (F R c (cond a (G (station_at st.stations s)) (station_at st.stations s))) (cond a (G (station_at st.stations s)) (station_at st.stations s)))
             ≡ record { power = (V.station s).power; stable = (V.station s).stable; loose = (V.station s).loose; coordinators = cond a (ideal.updated (V.station s).coordinators R (ideal.Open x.bits)) (V.station s).coordinators; subordinates = cond b (ideal.updated (V.station s).subordinates R (ideal.Active c)) (V.station s).subordinates }
-        near i true true = λ j. record { power = (V.station s).power; stable = (V.station s).stable; loose = (V.station s).loose; coordinators = co_more s i j; subordinates = sub_more s i j }
-        near i true false = λ j. record { power = (V.station s).power; stable = (V.station s).stable; loose = (V.station s).loose; coordinators = co_more s i j; subordinates = (V.station s).subordinates }
-        near i false true = λ j. record { power = (V.station s).power; stable = (V.station s).stable; loose = (V.station s).loose; coordinators = (V.station s).coordinators; subordinates = sub_more s i j }
+        near i true true =
+            let y = station_at st.stations s in
+            sub_more s i (G y) (length-set y.entries R (turned (turn.Coordinator (Open x)) (entries_for R y)) ∙ g.shape.entries s i)
+            ∙ ap (ideal.set_subordinate R (ideal.Active c)) (co_more s i)
+        near i true false = co_more s i
+        near i false true = sub_more s i (station_at st.stations s) (g.shape.entries s i)
         near i false false = refl
 
         far : n ≤ s → (a b : Bool) → a ≡ false → b ≡ false → station_as n s (section st.store.journal s) (cond b (F R c (cond a (G (station_at st.stations s)) (station_at st.stations s))) (cond a (G (station_at st.stations s)) (station_at st.stations s)))
@@ -253,8 +255,7 @@ module _ (π : Answers) (𝓗 : Lawful π) (n : ℕ) (two : 2 ≤ n) (eight : n 
             stations = k.stations;
             journals = k.journals;
             wide = k.wide;
-            cos = k.cos;
-            subs = k.subs;
+            entries = k.entries;
             sets = λ q i z. elim (cases_eq R q) [
               | inl e ↦ some (sym (ap (λ (y : Row). y.set.bits) (subst (λ (m : ℕ). row_at Log m ≡ row c x) e (row_new st.store.log (row c x)))) ∙ z)
               | inr e ↦ k.sets q (below_one q i e) (sym (ap (λ (y : Row). y.set.bits) (row_far st.store.log (row c x) q e)) ∙ z)

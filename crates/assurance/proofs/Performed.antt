@@ -12,10 +12,8 @@ use Rattle.presumption.specs.declared.outcome.Outcome.{Outcome}
 use Rattle.presumption.specs.declared.outcome.Outcome.TheVariants as outcome
 use Rattle.station.specs.Acts.{Act, write, force, post, mark_installed, mark_dropped}
 use Rattle.station.specs.Sets.{of_bits, single}
-use Rattle.station.specs.declared.coordinator.CoordinatorEntry.TheVariants as coordinator
 use Rattle.station.specs.declared.messages.Message.{Message}
 use Rattle.station.specs.declared.sets.StationSet.{StationSet}
-use Rattle.station.specs.declared.subordinate.SubordinateEntry.TheVariants as subordinate
 use Rattle.actor.specs.Log.{row_at, row, mark_row, marked}
 use Rattle.actor.specs.Post.{posted}
 use Rattle.actor.specs.Store.{Store, store, done, all_done, journal_cut}
@@ -27,13 +25,13 @@ use Rattle.stations.specs.declared.Turn.{Turn}
 use Rattle.stations.specs.declared.Turn.TheVariants as turn
 use Rattle.assurance.proofs.Ideal as ideal
 use Rattle.run.specs.State.{stepped}
-use Rattle.stations.specs.Stations.{blank, set_coordinator, set_subordinate, turn_entry}
+use Rattle.stations.specs.Stations.{no_entries, entries_for, turned, turn_station, blank, set_coordinator, set_subordinate, turn_entry}
 use Rattle.actor.specs.Store.{burns}
 use Rattle.std.proofs.ByRecursion.{All-take}
 use lib.ListN.{get_or-replicate, length-replicate}
 use Rattle.assurance.specs.Writes.{Accepts, Accepted}
 use Rattle.assurance.proofs.Room.{records, grows, grows_take}
-use Rattle.assurance.proofs.View.{record_as, message_as, co_as, sub_as, act_as, turn_as, station_as, net_of, parts, view, Shape, fun_at, record_here, record_there, station_here, station_there}
+use Rattle.assurance.proofs.View.{record_as, message_as, co_as, sub_as, act_as, turn_as, station_as, net_of, parts, view, Shape, fun_at, record_here, record_there, station_here, station_there, co_changed, sub_changed}
 use Rattle.assurance.proofs.Local.{local, locals, at_act}
 
 -- a write that there is room for
@@ -147,8 +145,7 @@ module _ (n : ℕ) where
         stations = k.stations;
         journals = length-set j s (f (section j s)) ∙ k.journals;
         wide = λ t l. omega (arith, k.wide t l, capacity_kept f j s t (omega (arith, k.journals)) e);
-        cos = k.cos;
-        subs = k.subs;
+        entries = k.entries;
         sets = k.sets;
       }
 
@@ -162,8 +159,7 @@ module _ (n : ℕ) where
         stations = k.stations;
         journals = k.journals;
         wide = k.wide;
-        cos = k.cos;
-        subs = k.subs;
+        entries = k.entries;
         sets = λ q b z. k.sets q (omega (arith, length-set l r (mark_row o s (row_at l r)))) (sym (row_kept (λ (x : Row). x.set.bits) o r s l h (ap (λ (x : StationSet). x.bits) (e (row_at l r))) q) ∙ z);
       }
 
@@ -173,7 +169,7 @@ module _ (n : ℕ) where
       let w = st.store in
       subst (λ (m : List Section). Shape n (with_store (store m w.post w.log) st)) (sym (written_is x w.journal s (omega (arith, k.journals)) (omega (arith, k.wide s h)))) (shape_section (put x) s st h (λ p. refl) k)
   shape_act s force st h k c = shape_section force_all s st h (λ p. refl) k
-  shape_act s (post m) st h k c = record { fit = k.fit; some = k.some; small = k.small; stations = k.stations; journals = k.journals; wide = k.wide; cos = k.cos; subs = k.subs; sets = k.sets }
+  shape_act s (post m) st h k c = record { fit = k.fit; some = k.some; small = k.small; stations = k.stations; journals = k.journals; wide = k.wide; entries = k.entries; sets = k.sets }
   shape_act s (mark_installed r) st h k c = shape_mark outcome.Commit r s st c (λ x. refl) k
   shape_act s (mark_dropped r) st h k c = shape_mark outcome.Abort r s st c (λ x. refl) k
 
@@ -206,7 +202,7 @@ module _ (n : ℕ) where
   pub acts_view : (s : ℕ) (l : List Act) (st : State) → s < n → Shape n st → AllByRecursion (Logged (length st.store.log)) l → records (locals (map act_as l) ((view n st).station s)) ≤ 160
       → (view n (with_store (all_done s l st.store) st) ≡ ideal.acts_done s (map act_as l) (view n st)) × Shape n (with_store (all_done s l st.store) st) × Accepted s l st.store
   unfolding all_done
-  acts_view s [] st h k g b = (refl, record { fit = k.fit; some = k.some; small = k.small; stations = k.stations; journals = k.journals; wide = k.wide; cos = k.cos; subs = k.subs; sets = k.sets }, tt)
+  acts_view s [] st h k g b = (refl, record { fit = k.fit; some = k.some; small = k.small; stations = k.stations; journals = k.journals; wide = k.wide; entries = k.entries; sets = k.sets }, tt)
   acts_view s (a ∷ l) st h k g b =
       let c = can s a l st g.0 b in
       let u = with_store (done s a st.store) st in
@@ -232,20 +228,12 @@ module _ (n : ℕ) where
       let x = station_at st.stations s in
       let y = (view n st).station s in
       ap (λ (f : ℕ → ideal.Station). record { station = f; post = (view n st).post; plan = (view n st).plan; count = (view n st).count; installed_at = (view n st).installed_at; dropped_at = (view n st).dropped_at })
-      (in_stations (set_coordinator r e x) (ideal.set_coordinator r (co_as e) y) s st h k
-      (ap (λ (f : ℕ → ideal.CoordinatorEntry). record { power = y.power; stable = y.stable; loose = y.loose; coordinators = f; subordinates = y.subordinates })
-      (fun_at y.coordinators (λ q. co_as (get_or (set x.coordinators r e) q coordinator.None)) r (co_as e)
-      (ap co_as (get_or-set_same x.coordinators r e coordinator.None (omega (arith, k.cos s h))))
-      (λ q d. ap co_as (get_or-set_other x.coordinators r q e coordinator.None (λ z. d (sym z)))))))
+      (in_stations (set_coordinator r e x) (ideal.set_coordinator r (co_as e) y) s st h k (co_changed n s r (section st.store.journal s) x (omega (arith, k.entries s h)) e))
   turn_view s r (turn.Subordinate e) st h l k =
       let x = station_at st.stations s in
       let y = (view n st).station s in
       ap (λ (f : ℕ → ideal.Station). record { station = f; post = (view n st).post; plan = (view n st).plan; count = (view n st).count; installed_at = (view n st).installed_at; dropped_at = (view n st).dropped_at })
-      (in_stations (set_subordinate r e x) (ideal.set_subordinate r (sub_as e) y) s st h k
-      (ap (λ (f : ℕ → ideal.SubordinateEntry). record { power = y.power; stable = y.stable; loose = y.loose; coordinators = y.coordinators; subordinates = f })
-      (fun_at y.subordinates (λ q. sub_as (get_or (set x.subordinates r e) q subordinate.None)) r (sub_as e)
-      (ap sub_as (get_or-set_same x.subordinates r e subordinate.None (omega (arith, k.subs s h))))
-      (λ q d. ap sub_as (get_or-set_other x.subordinates r q e subordinate.None (λ z. d (sym z)))))))
+      (in_stations (set_subordinate r e x) (ideal.set_subordinate r (sub_as e) y) s st h k (sub_changed n s r (section st.store.journal s) x (omega (arith, k.entries s h)) e))
 
   -- a station put in another's place, with entries for every revision
   station_kept : {X : Type 0} (g : Station → X) (a : X) (xs : List Station) (x : Station) (s t : ℕ) → s < length xs → g x ≡ a → g (station_at xs t) ≡ a → g (station_at (set xs s x) t) ≡ a
@@ -255,8 +243,8 @@ module _ (n : ℕ) where
         | inr z ↦ ap g (station_there xs x s t z) ∙ q
       ]
 
-  pub shape_station : (x : Station) (s : ℕ) (st : State) → s < n → length x.coordinators ≡ 32 → length x.subordinates ≡ 32 → Shape n st → Shape n (with_stations (set st.stations s x) st)
-  shape_station x s st h a b k =
+  pub shape_station : (x : Station) (s : ℕ) (st : State) → s < n → length x.entries ≡ 32 → Shape n st → Shape n (with_stations (set st.stations s x) st)
+  shape_station x s st h a k =
       record {
         fit = k.fit;
         some = k.some;
@@ -264,14 +252,12 @@ module _ (n : ℕ) where
         stations = length-set st.stations s x ∙ k.stations;
         journals = k.journals;
         wide = k.wide;
-        cos = λ t l. station_kept (λ (z : Station). length z.coordinators) 32 st.stations x s t (omega (arith, k.stations)) a (k.cos t l);
-        subs = λ t l. station_kept (λ (z : Station). length z.subordinates) 32 st.stations x s t (omega (arith, k.stations)) b (k.subs t l);
+        entries = λ t l. station_kept (λ (z : Station). length z.entries) 32 st.stations x s t (omega (arith, k.stations)) a (k.entries t l);
         sets = k.sets;
       }
 
   pub shape_turn : (s r : ℕ) (tn : Turn) (st : State) → s < n → Shape n st → Shape n (with_stations (turn_entry s r tn st.stations) st)
-  shape_turn s r (turn.Coordinator e) st h k = let x = station_at st.stations s in shape_station (set_coordinator r e x) s st h (length-set x.coordinators r e ∙ k.cos s h) (k.subs s h) k
-  shape_turn s r (turn.Subordinate e) st h k = let x = station_at st.stations s in shape_station (set_subordinate r e x) s st h (k.cos s h) (length-set x.subordinates r e ∙ k.subs s h) k
+  shape_turn s r tn st h k = let x = station_at st.stations s in shape_station (turn_station r tn x) s st h (length-set x.entries r (turned tn (entries_for r x)) ∙ k.entries s h) k
 
   -- a list of the same entry, read anywhere
   pub same_entry : {X : Type 0} (c r : ℕ) (e : X) → get_or (replicate c e) r e ≡ e
@@ -284,8 +270,8 @@ module _ (n : ℕ) where
         power = cond-true (ltb s n) false true (lt-ltb s n h) i;
         stable = (map-append record_as p.stable (take k p.unforced) ∙ ap (λ (l : List ideal.Record). map record_as p.stable ++ l) (sym (take-map record_as k p.unforced))) i;
         loose = [];
-        coordinators = λ r. ap co_as (same_entry 32 r coordinator.None) i;
-        subordinates = λ r. ap sub_as (same_entry 32 r subordinate.None) i;
+        coordinators = λ r. co_as (same_entry 32 r no_entries i).coordinator;
+        subordinates = λ r. sub_as (same_entry 32 r no_entries i).subordinate;
       }
 
   pub cut_view : (s k : ℕ) (st : State) → s < n → Shape n st → view n (cut_off s k st) ≡ ideal.at_station s (ideal.cut_station k) (view n st)
@@ -301,17 +287,13 @@ module _ (n : ℕ) where
       (λ t d. ap (λ (z : Station). station_as n t (section (cut_to k j s) t) z) (station_there xs (blank false) s t d)
       ∙ ap (λ (p : Section). station_as n t p (station_at xs t)) (record_there j (keep_first k) s t d)))
 
-  pub blank_cos : (b : Bool) → length (blank b).coordinators ≡ 32
+  pub blank_entries : (b : Bool) → length (blank b).entries ≡ 32
   unfolding blank
-  blank_cos b = refl
-
-  pub blank_subs : (b : Bool) → length (blank b).subordinates ≡ 32
-  unfolding blank
-  blank_subs b = refl
+  blank_entries b = refl
 
   pub shape_cut : (s k : ℕ) (st : State) → s < n → Shape n st → Shape n (cut_off s k st)
   unfolding journal_cut
-  shape_cut s k st h q = shape_station (blank false) s (with_store (journal_cut s k st.store) st) h (blank_cos false) (blank_subs false) (shape_section (keep_first k) s st h (λ p. refl) q)
+  shape_cut s k st h q = shape_station (blank false) s (with_store (journal_cut s k st.store) st) h (blank_entries false) (shape_section (keep_first k) s st h (λ p. refl) q)
 
   -- a whole step, under any fuse
   pub step_view : (s r : ℕ) (l : List Act) (tn : Turn) (f k : ℕ) (st : State) → s < n → r < 32 → Shape n st → AllByRecursion (Logged (length st.store.log)) l → records (locals (map act_as l) ((view n st).station s)) ≤ 160

@@ -1,5 +1,5 @@
 -- A run seen as an ideal run: stations, entries and rows by their numbers, writes that always succeed.
-use Rattle.std.proofs.Common.{◌≡◌, ℕ, ◌<◌, ◌≤◌, Bool, true, false, cond, ◌&&◌, ◌||◌, eqb, ltb, List, [], ◌∷◌, map, length, get_or, set, is_some, Some, sym, refl, ap, ◌∙◌, subst, inl, inr, get_or-set_other, get_or-set_same}
+use Rattle.std.proofs.Common.{◌≡◌, ℕ, ◌<◌, ◌≤◌, Bool, true, false, cond, ◌&&◌, ◌||◌, eqb, ltb, List, [], ◌∷◌, map, length, set, is_some, Some, sym, refl, ap, ◌∙◌, subst, inl, inr, get_or-set_other, get_or-set_same}
 use mathlib.Core.Path.{fun_ext}
 use Rattle.std.proofs.lemmas.Bool.{cond-true, cond-false, cases_eq, eq-eqb, ne_eqb}
 use Rattle.journal.specs.Meaning.{Section, section, changed, no_section}
@@ -23,7 +23,8 @@ use Rattle.station.specs.declared.subordinate.SubordinateEntry.TheVariants as su
 use Rattle.actor.specs.Log.{row_at}
 use Rattle.actor.specs.declared.log.Row.{Row}
 use Rattle.run.specs.State.{State}
-use Rattle.stations.specs.Stations.{station_at, no_station}
+use Rattle.stations.specs.Stations.{no_entries, entries_for, turned, turn_station, set_coordinator, set_subordinate, station_at, no_station}
+use Rattle.stations.specs.declared.Entries.{Entries}
 use Rattle.stations.specs.declared.Station.{Station}
 use Rattle.stations.specs.declared.Turn.{Turn}
 use Rattle.stations.specs.declared.Turn.TheVariants as turn
@@ -92,8 +93,8 @@ station_as n s p x =
       power = cond (ltb s n) x.power true;
       stable = map record_as p.stable;
       loose = map record_as p.unforced;
-      coordinators = λ r. co_as (get_or x.coordinators r coordinator.None);
-      subordinates = λ r. sub_as (get_or x.subordinates r subordinate.None);
+      coordinators = λ r. co_as (entries_for r x).coordinator;
+      subordinates = λ r. sub_as (entries_for r x).subordinate;
     }
 
 abbrev pub net_of : ℕ → List Section → List Station → ℕ → ideal.Station
@@ -125,8 +126,7 @@ pub record Shape (n : ℕ) (st : State) : Type 0 where
   pub stations : length st.stations ≡ n
   pub journals : length st.store.journal ≡ n
   pub wide : (s : ℕ) → s < n → 160 ≤ (section st.store.journal s).capacity
-  pub cos : (s : ℕ) → s < n → length (station_at st.stations s).coordinators ≡ 32
-  pub subs : (s : ℕ) → s < n → length (station_at st.stations s).subordinates ≡ 32
+  pub entries : (s : ℕ) → s < n → length (station_at st.stations s).entries ≡ 32
   pub sets : (r : ℕ) → r < length st.store.log → (row_at st.store.log r).set.bits ≡ 0 → ⊥
 
 -- a list with one element changed, read anywhere
@@ -150,6 +150,47 @@ station_here xs x s h = get_or-set_same xs s x no_station h
 
 pub station_there : (xs : List Station) (x : Station) (s t : ℕ) → (s ≡ t → ⊥) → station_at (set xs s x) t ≡ station_at xs t
 station_there xs x s t e = get_or-set_other xs s t x no_station (λ q. e (sym q))
+
+-- an entry that changes, read anywhere
+module _ {X : Type 0} (g : Entries → X) (r : ℕ) (tn : Turn) (x : Station) (h : r < length x.entries) where
+  entry_here : g (entries_for r (turn_station r tn x)) ≡ g (turned tn (entries_for r x))
+  entry_here = ap g (get_or-set_same x.entries r (turned tn (entries_for r x)) no_entries h)
+
+  entry_there : (q : ℕ) → (r ≡ q → ⊥) → g (entries_for q (turn_station r tn x)) ≡ g (entries_for q x)
+  entry_there q e = ap g (get_or-set_other x.entries r q (turned tn (entries_for r x)) no_entries (λ z. e (sym z)))
+
+  entries_changed : (v : X) → g (turned tn (entries_for r x)) ≡ v → (λ q. g (entries_for q (turn_station r tn x))) ≡ ideal.updated (λ q. g (entries_for q x)) r v
+  entries_changed v e = fun_at (λ q. g (entries_for q x)) (λ q. g (entries_for q (turn_station r tn x))) r v (entry_here ∙ e) entry_there
+
+  entries_kept : g (turned tn (entries_for r x)) ≡ g (entries_for r x) → ◌≡◌ {A = ℕ → X} (λ q. g (entries_for q (turn_station r tn x))) (λ q. g (entries_for q x))
+  entries_kept e =
+      fun_ext (λ q. elim (cases_eq r q) [
+        | inl z ↦ subst (λ (k : ℕ). g (entries_for k (turn_station r tn x)) ≡ g (entries_for k x)) z (entry_here ∙ e)
+        | inr z ↦ entry_there q z
+      ])
+
+module _ (n s r : ℕ) (p : Section) (x : Station) (h : r < length x.entries) where
+  pub co_changed : (e : CoordinatorEntry) → station_as n s p (set_coordinator r e x) ≡ ideal.set_coordinator r (co_as e) (station_as n s p x)
+  co_changed e =
+      let y = station_as n s p x in
+      λ i. record {
+        power = y.power;
+        stable = y.stable;
+        loose = y.loose;
+        coordinators = entries_changed (λ z. co_as z.coordinator) r (turn.Coordinator e) x h (co_as e) refl i;
+        subordinates = entries_kept (λ z. sub_as z.subordinate) r (turn.Coordinator e) x h refl i;
+      }
+
+  pub sub_changed : (e : SubordinateEntry) → station_as n s p (set_subordinate r e x) ≡ ideal.set_subordinate r (sub_as e) (station_as n s p x)
+  sub_changed e =
+      let y = station_as n s p x in
+      λ i. record {
+        power = y.power;
+        stable = y.stable;
+        loose = y.loose;
+        coordinators = entries_kept (λ z. co_as z.coordinator) r (turn.Subordinate e) x h refl i;
+        subordinates = entries_changed (λ z. sub_as z.subordinate) r (turn.Subordinate e) x h (sub_as e) refl i;
+      }
 
 -- kinds are told apart by their letters as by their codes
 same_kind : (a k : Kind) → eqb (ideal.code (kind_as a)) (ideal.code (kind_as k)) ≡ eqb (letter_of a) (letter_of k)

@@ -86,10 +86,10 @@ module _ (π : Answers) (𝓗 : Lawful π) (n : ℕ) (two : 2 ≤ n) (eight : n 
   unrefused c d e = subst Done e (go c)
     where
       go : (c : Call) → Done (due π c st)
-      go (Close r f k) = close_done r (coordinator_entry r st) refl
-      go (GiveUp r f k) = give_up_done r (coordinator_entry r st) refl
-      go (Chase r f k) = chase_done r (coordinator_entry r st) refl
-      go (Reject r s f k) = reject_done r s (subordinate_at st.stations s r) refl
-      go (Inquire r s f k) = inquire_done r s (subordinate_at st.stations s r) refl
-      go (Deliver i copy f k) = post_done st.store.post i g.full.near.posts g.full.inv.safe.msgs
+      go (Close r f) = close_done r (coordinator_entry r st) refl
+      go (GiveUp r f) = give_up_done r (coordinator_entry r st) refl
+      go (Chase r f) = chase_done r (coordinator_entry r st) refl
+      go (Reject r s f) = reject_done r s (subordinate_at st.stations s r) refl
+      go (Inquire r s f) = inquire_done r s (subordinate_at st.stations s r) refl
+      go (Deliver i copy f) = post_done st.store.post i g.full.near.posts g.full.inv.safe.msgs
       go e = tt

@@ -5,7 +5,6 @@ ghost use Rattle.std.specs.Prelude.{◌≡◌, true, IfOk};
 ghost use Rattle.assurance.specs.Marked.{AllAsMarked};
 ghost use Rattle.assurance.specs.Outcomes.{Sound, OneOutcome};
 ghost use Rattle.assurance.specs.Played.{AllPerformed};
-ghost use Rattle.run.specs.Runs.{seen};
 ghost use Rattle.run.specs.State.{fits, fresh};
 
 pub mod calls;
@@ -19,7 +18,7 @@ use std::alloc::{AllocError, Global};
 
 /// A run that was played, and what each call answered.
 #[derive(Drop)]
-pub struct Played<J, P> {
+pub struct Played<J: Journal, P: Presumption> {
     pub run: Run<J, P>,
     pub answers: Vec<Result<Value, Refusal>>,
 }
@@ -30,7 +29,7 @@ fn perform_all<J: Journal, P: Presumption>(
     run: &mut Run<J, P>,
     calls: &[Call],
 ) -> Result<Vec<Result<Value, Refusal>>, AllocError>
-    ensures performed { IfOk result (λ xs. AllPerformed (P.Presumption.answers run.old.presumption) calls.now (seen J.Journal.meaning run.old) (seen J.Journal.meaning run.new) xs.items) }
+    ensures performed { IfOk result (λ xs. AllPerformed (P.answers run.old.presumption) calls.now run.old.state run.new.state xs.items) }
     ensures presumes { run.new.presumption ≡ run.old.presumption }
 {
     let mut answers = Vec::new(heap);
@@ -49,9 +48,9 @@ pub fn play<J: Journal + Drop, P: Presumption + Drop>(
     presumption: P,
     calls: &[Call],
 ) -> Result<Played<J, P>, AllocError>
-    ensures performed { IfOk result (λ x. AllPerformed (P.Presumption.answers presumption) calls.now (fresh (J.Journal.meaning journal)) (seen J.Journal.meaning x.run) x.answers.items) }
+    ensures performed { IfOk result (λ x. AllPerformed (P.answers presumption) calls.now (fresh (J.meaning journal)) x.run.state x.answers.items) }
     ensures presumes { IfOk result (λ x. x.run.presumption ≡ presumption) }
-    ensures sound { IfOk result (λ x. fits (J.Journal.meaning journal) ≡ true → Sound (P.Presumption.answers presumption) (seen J.Journal.meaning x.run)) }
+    ensures sound { IfOk result (λ x. fits (J.meaning journal) ≡ true → Sound (P.answers presumption) x.run.state) }
     ensures outcome { OneOutcome }
     ensures marked { AllAsMarked }
 {

@@ -1,4 +1,3 @@
-pub mod Coding
 pub mod Laws
 pub mod Splitting
 pub mod Parts

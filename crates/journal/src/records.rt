@@ -1,7 +1,8 @@
 //! What a journal keeps: records, each of a kind and for one revision, and their bytes.
-ghost use Rattle.std.specs.Prelude.{◌≡◌, ℕ, List, ◌++◌, Some};
-ghost use Rattle.journal.specs.Bytes.{encoded, record_of, decoded, Decodes, Splits};
+ghost use Rattle.std.specs.Prelude.{◌≡◌, ℕ, List, ◌++◌, Some, ok_or};
+ghost use Rattle.journal.specs.Bytes.{encoded, decoded, Decodes, Splits};
 ghost use Rattle.journal.specs.Records.{letter_of, kind_of};
+ghost use Rattle.journal.specs.declared.refusals.Refusal.TheVariants.{NotARecord};
 
 use crate::refusals::Refusal;
 
@@ -9,7 +10,7 @@ use crate::refusals::Refusal;
 pub const RECORD_BYTES: usize = 4;
 
 /// The kinds of record: four of the coordinator, three of the subordinate.
-#[derive(Clone, Copy)]
+#[derive(Clone, Copy, Debug, PartialEq, Eq)]
 pub enum Kind {
     /// I: the coordinator opens the vote.
     Opening,
@@ -28,19 +29,19 @@ pub enum Kind {
 }
 
 /// One record. The argument is a set of stations (I, C, A), 0 (E), or the coordinator's number (p, c, a).
-#[derive(Clone, Copy)]
+#[derive(Clone, Copy, Debug, PartialEq, Eq)]
 pub struct Record {
     pub kind: Kind,
     pub revision: u16,
     pub argument: u8,
 }
 
-impl Kind {
-    /// The ASCII letter by which bytes and listings name the kind.
-    pub fn letter(self) -> u8
-        ensures { result ≡ letter_of self }
-    {
-        match self {
+/// The ASCII letter by which bytes and listings name the kind.
+impl From<Kind> for u8 {
+    ghost from_gives = { λ kind letter. letter ≡ letter_of kind };
+
+    fn from(kind: Kind) -> u8 {
+        match kind {
             Kind::Opening => b'I',
             Kind::Commit => b'C',
             Kind::Abort => b'A',
@@ -50,20 +51,24 @@ impl Kind {
             Kind::Aborted => b'a',
         }
     }
+}
 
-    /// The kind that has this letter, if any.
-    pub fn of_letter(letter: u8) -> Option<Kind>
-        ensures { result ≡ kind_of letter }
-    {
+/// The kind that has this letter; any other byte begins no record.
+impl TryFrom<u8> for Kind {
+    type Error = Refusal;
+
+    ghost try_from_gives = { λ letter found. found ≡ ok_or (kind_of letter) NotARecord };
+
+    fn try_from(letter: u8) -> Result<Kind, Refusal> {
         match letter {
-            b'I' => Some(Kind::Opening),
-            b'C' => Some(Kind::Commit),
-            b'A' => Some(Kind::Abort),
-            b'E' => Some(Kind::End),
-            b'p' => Some(Kind::Prepared),
-            b'c' => Some(Kind::Committed),
-            b'a' => Some(Kind::Aborted),
-            _ => None,
+            b'I' => Ok(Kind::Opening),
+            b'C' => Ok(Kind::Commit),
+            b'A' => Ok(Kind::Abort),
+            b'E' => Ok(Kind::End),
+            b'p' => Ok(Kind::Prepared),
+            b'c' => Ok(Kind::Committed),
+            b'a' => Ok(Kind::Aborted),
+            _ => Err(Refusal::NotARecord),
         }
     }
 }
@@ -74,25 +79,8 @@ impl Record {
         ensures bytes { result ≡ encoded self }
         ensures back { (rest : List ℕ) → decoded (result ++ rest) ≡ Some self }
     {
-        [
-            self.kind.letter(),
-            (self.revision / 256) as u8,
-            (self.revision % 256) as u8,
-            self.argument,
-        ]
-    }
-
-    // The record of these bytes, if the first is a kind's letter.
-    fn of_bytes(letter: u8, high: u8, low: u8, argument: u8) -> Option<Record>
-        ensures { result ≡ record_of (kind_of letter) high low argument }
-    {
-        let kind = Kind::of_letter(letter)?;
-        let revision = u16::from(high) * 256 + u16::from(low);
-        Some(Record {
-            kind,
-            revision,
-            argument,
-        })
+        let [high, low] = self.revision.to_be_bytes();
+        [u8::from(self.kind), high, low, self.argument]
     }
 }
 
@@ -103,11 +91,13 @@ pub fn decode(bytes: &[u8]) -> Result<(Record, &[u8]), Refusal>
     ensures cases { Decodes bytes.now result }
     ensures splits { Splits bytes.now result }
 {
-    let [kind, high, low, argument, rest @ ..] = bytes else {
+    let [letter, high, low, argument, rest @ ..] = bytes else {
         return Err(Refusal::NotARecord);
     };
-    match Record::of_bytes(*kind, *high, *low, *argument) {
-        Some(found) => Ok((found, rest)),
-        None => Err(Refusal::NotARecord),
-    }
+    let record = Record {
+        kind: Kind::try_from(*letter)?,
+        revision: u16::from_be_bytes([*high, *low]),
+        argument: *argument,
+    };
+    Ok((record, rest))
 }

@@ -6,7 +6,7 @@ use crate::Presumption;
 use crate::outcome::{Logging, Outcome};
 
 /// A revision that nobody remembers was aborted.
-#[derive(Clone, Copy)]
+#[derive(Clone, Copy, Debug, PartialEq, Eq)]
 pub struct PresumedAbort;
 
 impl Presumption for PresumedAbort {
@@ -23,7 +23,7 @@ impl Presumption for PresumedAbort {
     }
 
     fn acknowledges(&self, outcome: Outcome) -> bool {
-        matches!(outcome, Outcome::Commit)
+        outcome == Outcome::Commit
     }
 
     // What is acknowledged is forced, and nothing else.

@@ -1,4 +1,3 @@
 pub mod Ready
-pub mod Steps
 pub mod Loads
 pub mod Settles

@@ -1,23 +1,17 @@
--- Every section of a journal, one after the other.
-use Rattle.std.proofs.Common.{◌≡◌, ℕ, suc, ◌+◌, ◌<◌, ◌≤◌, true, false, ◌&&◌, List, length, drop, sym, ap, ◌∙◌, add-one, drop-cons}
+-- Every section of a journal, by the numbers of the stations.
+use Rattle.std.proofs.Common.{◌≡◌, ℕ, zero, suc, ◌+◌, ◌<◌, ◌&&◌, List, length, drop, sym, ap, ◌∙◌, arith, add-one, drop-cons}
 use Rattle.std.proofs.lemmas.List.{drop_all}
+use Rattle.std.specs.List.{list_all, range_with_len}
 use Rattle.journal.specs.Meaning.{Section, section, no_section}
 use Rattle.run.specs.State.{ready, all_ready}
 
-module _ (m : List Section) (s : ℕ) where
-  abbrev Left : Type 0
-  Left = all_ready (drop s m) ≡ all_ready m
-
-  here : s < length m → all_ready (drop s m) ≡ (ready (section m s) && all_ready (drop (suc s) m))
+module _ (m : List Section) where
+  all_ready_from : (s n : ℕ) → s + n ≡ length m → list_all (λ i. ready (section m i)) (range_with_len s n) ≡ all_ready (drop s m)
   unfolding all_ready
-  here h = ap all_ready (drop-cons m s no_section h)
+  all_ready_from s zero e = sym (ap all_ready (drop_all s m (omega arith)))
+  all_ready_from s (suc n) e =
+      let h : s < length m = omega arith in
+      ap (λ b. ready (section m s) && b) (all_ready_from (s + 1) n (omega arith)) ∙ rw add-one (sym (ap all_ready (drop-cons m s no_section h)))
 
-  pub ready_no : s < length m → Left → ready (section m s) ≡ false → false ≡ all_ready m
-  ready_no h l e = sym (ap (λ b. b && all_ready (drop (suc s) m)) e) ∙ (sym (here h) ∙ l)
-
-  pub ready_more : s < length m → Left → ready (section m s) ≡ true → all_ready (drop (s + 1) m) ≡ all_ready m
-  ready_more h l e = rw add-one (sym (ap (λ b. b && all_ready (drop (suc s) m)) e) ∙ (sym (here h) ∙ l))
-
-  pub ready_all : length m ≤ s → Left → true ≡ all_ready m
-  unfolding all_ready
-  ready_all h l = ap all_ready (sym (drop_all s m h)) ∙ l
+  pub all_ready_is : list_all (λ i. ready (section m i)) (range_with_len 0 (length m)) ≡ all_ready m
+  all_ready_is = all_ready_from 0 (length m) (omega arith)

@@ -1,5 +1,5 @@
 -- The calls: the questions in their order, then what is done.
-use Rattle.std.specs.Prelude.{ℕ, min, Bool, cond, not, ◌&&◌, List, [], ◌∷◌, length, Some, None, Ok, Err, Option, Result, count_ones, nat_lt, slice_index_or}
+use Rattle.std.specs.Prelude.{◌≡◌, ℕ, min, Bool, cond, not, ◌&&◌, List, [], ◌∷◌, length, Some, None, Ok, Err, Option, Result, count_ones, nat_lt, slice_index_or}
 use Rattle.presumption.specs.Answers.{Answers}
 use Rattle.run.specs.Answers.{Answer, refused, answered, number}
 use Rattle.actor.specs.Log.{row_at}
@@ -47,6 +47,10 @@ asked (q ∷ qs) st done = cond q.1 (asked qs st done) (refuse q.0 st)
 abbrev pub passed : {X : Type 0} → Result X Refusal → State → Reply → Reply
 passed (Ok x) st done = done
 passed (Err e) st done = refuse (number e) st
+
+-- These questions are asked, and the first no is the refusal.
+abbrev pub Asks : {X : Type 0} → List (ℕ × Bool) → Result X Refusal → State → Type 0
+Asks qs r st = (done : Reply) → asked qs st done ≡ passed r st done
 
 -- Is the run fit?
 abbrev pub fit? : State → ℕ × Bool

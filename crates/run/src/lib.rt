@@ -3,3 +3,5 @@
 
 pub mod refusals;
 pub mod run;
+
+pub use actor::Fuse;

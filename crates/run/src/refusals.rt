@@ -3,7 +3,7 @@ ghost use Rattle.std.specs.Prelude.{◌≡◌};
 ghost use Rattle.run.specs.Answers.{number};
 
 /// The first question that was answered no. A refused call changes nothing.
-#[derive(Clone, Copy)]
+#[derive(Clone, Copy, Debug, PartialEq, Eq)]
 pub enum Refusal {
     /// The run is not fit: 1.
     Unfit,
@@ -23,12 +23,12 @@ pub enum Refusal {
     NotDark,
 }
 
-impl Refusal {
-    /// The number by which the refusal is known.
-    pub fn number(self) -> u8
-        ensures { result ≡ number self }
-    {
-        match self {
+// The number by which a refusal is known.
+impl From<Refusal> for u8 {
+    ghost from_gives = { λ refusal n. n ≡ number refusal };
+
+    fn from(refusal: Refusal) -> u8 {
+        match refusal {
             Refusal::Unfit => 1,
             Refusal::NoSuchStation => 2,
             Refusal::NotOpened => 3,

@@ -3,7 +3,6 @@ ghost use Rattle.std.specs.Prelude.{◌≡◌, IfOk};
 ghost use Rattle.journal.specs.Meaning.{section};
 ghost use Rattle.run.specs.Answers.{answered};
 ghost use Rattle.run.specs.Calls.{reply, moved};
-ghost use Rattle.run.specs.Runs.{seen};
 ghost use Rattle.run.specs.State.{ready, all_ready, fits, fresh};
 ghost use Rattle.station.specs.Moves.{move};
 
@@ -11,29 +10,47 @@ mod calls;
 pub mod settling;
 mod views;
 
-use actor::{Actor, Performed};
+use actor::{Actor, Fuse};
 use journal::MAX_STATIONS;
 use journal::calls::Journal;
 use presumption::Presumption;
 use station::steps::Step;
 use stations::{Stations, Turn};
 use std::alloc::{AllocError, Global};
+use std::marker::Model;
 
 /// How many records a section must have room for.
 pub const LEAST_CAPACITY: usize = 160;
 
 /// 2 to 8 stations with a journal, the post between them and the as-run log.
 #[derive(Drop)]
-pub struct Run<J, P> {
+pub struct Run<J: Journal, P: Presumption> {
     actor: Actor<J>,
     presumption: P,
     fit: bool,
     stations: Stations,
 }
 
+// A clause sees the presumption and the state.
+impl<J: Journal, P: Presumption> Model for Run<J, P> {
+    ghost use Rattle.actor.specs.Actors.{store_of};
+    ghost use Rattle.run.specs.Runs.{Shown};
+
+    ghost Value = { Shown P };
+
+    ghost view = { λ x. record {
+      presumption = x.presumption;
+      state = record {
+        fit = x.fit;
+        store = store_of J.meaning x.actor;
+        stations = x.stations;
+      };
+    } };
+}
+
 // Is the station's section large enough and empty?
 fn is_ready<J: Journal>(journal: &J, station: u8) -> bool
-    ensures { result ≡ ready (section (J.Journal.meaning journal.now) station) }
+    ensures { result ≡ ready (section (J.meaning journal.now) station) }
 {
     journal.capacity(station) >= LEAST_CAPACITY
         && journal.stable_len(station) == 0
@@ -42,14 +59,9 @@ fn is_ready<J: Journal>(journal: &J, station: u8) -> bool
 
 // Is every section large enough and empty?
 fn are_ready<J: Journal>(journal: &J) -> bool
-    ensures { result ≡ all_ready (J.Journal.meaning journal.now) }
+    ensures { result ≡ all_ready (J.meaning journal.now) }
 {
-    for station in 0..journal.stations() {
-        if !is_ready(journal, station) {
-            return false;
-        }
-    }
-    true
+    (0..journal.stations()).all(|station| is_ready(journal, station))
 }
 
 impl<J: Journal, P: Presumption> Run<J, P> {
@@ -59,11 +71,11 @@ impl<J: Journal, P: Presumption> Run<J, P> {
     where
         J: Drop,
         P: Drop,
-        ensures state { IfOk result (λ x. seen J.Journal.meaning x ≡ fresh (J.Journal.meaning journal)) }
+        ensures state { IfOk result (λ x. x.state ≡ fresh (J.meaning journal)) }
         ensures presumes { IfOk result (λ x. x.presumption ≡ presumption) }
     {
         let count = journal.stations();
-        let fit = count >= 2 && count <= MAX_STATIONS && are_ready(&journal);
+        let fit = (2..=MAX_STATIONS).contains(&count) && are_ready(&journal);
         let stations = Stations::new(heap, count)?;
         let actor = Actor::new(heap, journal)?;
         Ok(Run {
@@ -75,26 +87,24 @@ impl<J: Journal, P: Presumption> Run<J, P> {
     }
 
     // A step under a fuse, and then the entry changes; a power cut leaves the station dark. Answers the acts done.
-    fn take_step(
-        &mut self,
-        station: u8,
-        revision: u16,
-        step: Step,
-        turn: Turn,
-        fuse: u8,
-        kept: u8,
-    ) -> u8
-        ensures reply { reply (answered result) (seen J.Journal.meaning self.new) ≡ moved (P.Presumption.answers self.old.presumption) station revision (move step turn) fuse kept (seen J.Journal.meaning self.old) }
+    #[tactic(auto, unfolding(crate::specs::State::stepped, actor::specs::Store::answer_under_fuse, actor::specs::Store::done_under_fuse))]
+    fn take_step(&mut self, station: u8, revision: u16, step: Step, turn: Turn, fuse: Fuse) -> u8
+        ensures reply { reply (answered result) self.new.state
+            ≡ moved (P.answers self.old.presumption) station revision (move step turn) fuse.acts fuse.kept self.old.state }
         ensures presumes { self.new.presumption ≡ self.old.presumption }
     {
-        let Performed { acts, cut } = self
+        match self
             .actor
-            .step(&self.presumption, station, revision, step, fuse, kept);
-        if cut {
-            self.stations.cut(station);
-        } else {
-            self.stations.turn(station, revision, turn);
+            .step(&self.presumption, station, revision, step, fuse)
+        {
+            Ok(acts) => {
+                self.stations.turn(station, revision, turn);
+                acts
+            }
+            Err(cut) => {
+                self.stations.cut(station);
+                cut.after
+            }
         }
-        acts
     }
 }

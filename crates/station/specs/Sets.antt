@@ -1,5 +1,5 @@
 -- Sets of stations.
-use Rattle.std.specs.Prelude.{◌≡◌, ℕ, ◌/◌, ◌%◌, ◌^◌, Bool, true, cond, List, Some, None, Option, ◌==◌, bit_and, bit_or, bit_xor, nat_lt}
+use Rattle.std.specs.Prelude.{◌≡◌, ℕ, ◌/◌, ◌%◌, ◌^◌, Bool, true, cond, List, [], ◌∷◌, Some, None, Option, ◌==◌, bit_and, bit_or, bit_xor, nat_lt}
 use Rattle.std.specs.Int.Count.{count_trailing_zeros}
 use Rattle.std.specs.List.{range_with_len, filter}
 use Rattle.journal.specs.Limits.{most_stations}
@@ -49,3 +49,8 @@ first_of x = cond (empty x) None (Some (count_trailing_zeros most_stations x.bit
 abbrev pub NamesOne : Option ℕ → StationSet → Type 0
 NamesOne None x = empty x ≡ true
 NamesOne (Some s) x = holds x s ≡ true
+
+-- The station that is named is the first member, and the set without it has the others; none is named only where there are none.
+abbrev pub LeadsMembers : Option ℕ → StationSet → Type 0
+LeadsMembers None x = members x ≡ []
+LeadsMembers (Some s) x = members x ≡ s ∷ members (without_station x s)

@@ -11,7 +11,7 @@ use presumption::Presumption;
 use presumption::outcome::Outcome;
 
 /// What a coordinator remembers of a revision.
-#[derive(Clone, Copy)]
+#[derive(Clone, Copy, Debug, PartialEq, Eq)]
 pub enum CoordinatorEntry {
     None,
     Open {
@@ -28,7 +28,7 @@ pub enum CoordinatorEntry {
 }
 
 /// An outcome that is decided already, or presumed: only this module makes one, from an entry that says so.
-#[derive(Clone, Copy)]
+#[derive(Clone, Copy, Debug, PartialEq, Eq)]
 pub struct KnownOutcome {
     outcome: Outcome,
 }
@@ -78,7 +78,7 @@ impl CoordinatorEntry {
             (CoordinatorEntry::Collecting { set, voters }, MessageKind::Yes)
                 if set.contains(sender) => {
                 *voters = voters.insert(sender);
-                if voters.bits() != set.bits() {
+                if *voters != *set {
                     return Step::Rest;
                 }
                 let set = *set;
@@ -121,7 +121,7 @@ impl CoordinatorEntry {
     {
         match *self {
             CoordinatorEntry::Open { set } => {
-                let voters = StationSet::from_bits(0);
+                let voters = StationSet::default();
                 *self = CoordinatorEntry::Collecting { set, voters };
                 Some(Step::OpenVote { set })
             }
@@ -163,7 +163,7 @@ impl CoordinatorEntry {
         match self {
             CoordinatorEntry::Collecting { set, voters } => set.difference(voters),
             CoordinatorEntry::Announcing { awaited, .. } => awaited,
-            CoordinatorEntry::None | CoordinatorEntry::Open { .. } => StationSet::from_bits(0),
+            CoordinatorEntry::None | CoordinatorEntry::Open { .. } => StationSet::default(),
         }
     }
 }

@@ -15,7 +15,7 @@ use presumption::outcome::Outcome;
 fn is_of(record: Record, kind: Kind, revision: u16) -> bool
     ensures { result ≡ is_of kind revision «record» }
 {
-    record.kind.letter() == kind.letter() && record.revision == revision
+    record.kind == kind && record.revision == revision
 }
 
 /// The first stable record of a kind for a revision, if the station has one.
@@ -42,13 +42,13 @@ fn decision_on_record<J: Journal>(
     ensures { result ≡ decision revision (section (J.Journal.meaning journal.now) station).stable }
 {
     if let Some(line) = find(journal, station, Kind::Commit, revision) {
-        return Some((Outcome::Commit, StationSet::from_bits(line.argument)));
+        return Some((Outcome::Commit, StationSet::from(line.argument)));
     }
     if let Some(line) = find(journal, station, Kind::Abort, revision) {
-        return Some((Outcome::Abort, StationSet::from_bits(line.argument)));
+        return Some((Outcome::Abort, StationSet::from(line.argument)));
     }
     match find(journal, station, Kind::Opening, revision) {
-        Some(line) => Some((Outcome::Abort, StationSet::from_bits(line.argument))),
+        Some(line) => Some((Outcome::Abort, StationSet::from(line.argument))),
         None => None,
     }
 }

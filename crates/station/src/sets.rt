@@ -1,13 +1,17 @@
 //! Sets of stations.
-ghost use Rattle.std.specs.Prelude.{◌≡◌, ◌/◌, ◌^◌, true, false, count_ones};
+ghost use Rattle.std.specs.Prelude.{◌≡◌, ◌/◌, ◌^◌, true, false, Some, count_ones};
 ghost use Rattle.std.specs.Int.Count.{count_trailing_zeros};
 ghost use Rattle.journal.specs.Limits.{most_stations};
-ghost use Rattle.station.specs.Sets.{of_bits, empty, holds, single, with_station, without_station, without_set, first_of, below, NamesOne};
+ghost use Rattle.station.specs.Sets.{of_bits, empty, holds, single, with_station, without_station, without_set, first_of, below, NamesOne, LeadsMembers};
 
 use journal::MAX_STATIONS;
 
+mod members;
+
+pub use members::Members;
+
 /// A set of stations: bit s, worth 2 to the power s, stands for station s.
-#[derive(Clone, Copy)]
+#[derive(Clone, Copy, Debug, Default, PartialEq, Eq)]
 pub struct StationSet {
     bits: u8,
 }
@@ -23,22 +27,25 @@ fn bit_of(station: u8) -> u8
     }
 }
 
-impl StationSet {
-    /// The set whose bits these are.
-    pub fn from_bits(bits: u8) -> StationSet
-        ensures { result ≡ of_bits bits }
-    {
+/// The set whose bits these are.
+impl From<u8> for StationSet {
+    ghost from_gives = { λ n x. x ≡ of_bits n };
+
+    fn from(bits: u8) -> StationSet {
         StationSet { bits }
     }
+}
 
-    /// The bits of the set, as a record's argument has them.
-    pub fn bits(self) -> u8
-        ensures { result ≡ self.bits }
-    {
-        let StationSet { bits } = self;
-        bits
+/// The bits of the set, as a record's argument has them.
+impl From<StationSet> for u8 {
+    ghost from_gives = { λ x n. n ≡ x.bits };
+
+    fn from(set: StationSet) -> u8 {
+        set.bits
     }
+}
 
+impl StationSet {
     /// Is nobody in the set?
     pub fn is_empty(self) -> bool
         ensures { result ≡ empty self }
@@ -57,6 +64,7 @@ impl StationSet {
     pub fn first(self) -> Option<u8>
         ensures lowest { result ≡ first_of self }
         ensures one { NamesOne result self }
+        ensures leads { LeadsMembers result self }
     {
         if self.is_empty() {
             None
@@ -70,6 +78,7 @@ impl StationSet {
         requires { empty self ≡ false }
         ensures number { result ≡ count_trailing_zeros most_stations self.bits }
         ensures one { holds self result ≡ true }
+        ensures leads { LeadsMembers (Some result) self }
     {
         self.bits.trailing_zeros() as u8
     }

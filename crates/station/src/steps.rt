@@ -5,7 +5,7 @@ use crate::subordinate::GivenVote;
 use presumption::outcome::Outcome;
 
 /// What a station has to do. The acts of each step are listed in the specification.
-#[derive(Clone, Copy)]
+#[derive(Clone, Copy, Debug, PartialEq, Eq)]
 pub enum Step {
     /// Nothing.
     Rest,

@@ -8,7 +8,7 @@ use crate::steps::Step;
 use presumption::outcome::Outcome;
 
 /// What a subordinate remembers of a revision. Prepared means in doubt.
-#[derive(Clone, Copy)]
+#[derive(Clone, Copy, Debug, PartialEq, Eq)]
 pub enum SubordinateEntry {
     None,
     Active { coordinator: u8 },
@@ -16,7 +16,7 @@ pub enum SubordinateEntry {
 }
 
 /// A vote that was given already: only this module makes one, from an entry that is Prepared.
-#[derive(Clone, Copy)]
+#[derive(Clone, Copy, Debug, PartialEq, Eq)]
 pub struct GivenVote {
     coordinator: u8,
 }

@@ -1,2 +1,2 @@
 pub mod Groups
-pub mod Rebuilds
+pub mod Made

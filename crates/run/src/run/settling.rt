@@ -2,8 +2,7 @@
 ghost use Rattle.std.specs.Prelude.{◌≡◌, ◌+◌, ◌^◌, ◌<◌, ◌≤◌, true, [], IfOk, OnOk};
 ghost use Rattle.journal.specs.Limits.{most_stations};
 ghost use Rattle.run.specs.Answers.{answer_of, awaited_answer};
-ghost use Rattle.run.specs.Calls.{Reply, reply, asked, passed, opened_questions, coordinator_entry, unheard_call};
-ghost use Rattle.run.specs.Runs.{seen};
+ghost use Rattle.run.specs.Calls.{Asks, reply, opened_questions, coordinator_entry, unheard_call};
 ghost use Rattle.run.specs.Settling.{Drained, progress, load, drained, urged, inquired, finished, settled, settle_call};
 ghost use Rattle.station.specs.Coordinator.{unheard};
 ghost use Rattle.station.specs.Sets.{NamesOne};
@@ -11,16 +10,14 @@ ghost use Rattle.stations.specs.Stations.{subordinate_at};
 
 use crate::refusals::Refusal;
 use crate::run::Run;
+use actor::Fuse;
 use journal::calls::Journal;
 use presumption::Presumption;
 use station::coordinator::CoordinatorEntry;
 use station::subordinate::SubordinateEntry;
 
-/// No step has as many acts, so this fuse never burns.
-pub const LONG_FUSE: u8 = 255;
-
 /// Whom a coordinator has not heard from: one of these stations, if there is one, and how many there are.
-#[derive(Clone, Copy)]
+#[derive(Clone, Copy, Debug, PartialEq, Eq)]
 pub struct Awaited {
     pub station: Option<u8>,
     pub count: u32,
@@ -29,8 +26,8 @@ pub struct Awaited {
 impl<J: Journal, P: Presumption> Run<J, P> {
     // The entry of the coordinator of a revision that was opened.
     fn opened_entry(&self, revision: u16) -> Result<CoordinatorEntry, Refusal>
-        ensures passed { (d : Reply) → asked (opened_questions revision (seen J.Journal.meaning self.now)) (seen J.Journal.meaning self.now) d ≡ passed result (seen J.Journal.meaning self.now) d }
-        ensures value { IfOk result (λ e. e ≡ coordinator_entry revision (seen J.Journal.meaning self.now)) }
+        ensures asked { Asks (opened_questions revision self.now.state) result self.now.state }
+        ensures value { IfOk result (λ e. e ≡ coordinator_entry revision self.now.state) }
     {
         let coordinator = self.opened_by(revision)?;
         Ok(self.stations.coordinator(coordinator, revision))
@@ -38,8 +35,8 @@ impl<J: Journal, P: Presumption> Run<J, P> {
 
     /// A station that the coordinator of the revision has not heard from, and how many there are.
     pub fn awaited(&self, revision: u16) -> Result<Awaited, Refusal>
-        ensures reply { reply (awaited_answer result) (seen J.Journal.meaning self.now) ≡ unheard_call revision (seen J.Journal.meaning self.now) }
-        ensures station { IfOk result (λ a. NamesOne a.station (unheard (coordinator_entry revision (seen J.Journal.meaning self.now)))) }
+        ensures reply { reply (awaited_answer result) self.now.state ≡ unheard_call revision self.now.state }
+        ensures station { IfOk result (λ a. NamesOne a.station (unheard (coordinator_entry revision self.now.state))) }
     {
         let unheard = self.opened_entry(revision)?.unheard();
         Ok(Awaited {
@@ -48,18 +45,19 @@ impl<J: Journal, P: Presumption> Run<J, P> {
         })
     }
 
-    // Delivers the first message until none waits. Answers the deliveries made in all.
-    fn drain(&mut self, before: usize) -> usize
-        requires fit { self.old.fit ≡ true }
-        requires few { before + load most_stations (seen J.Journal.meaning self.old).store.post < 2 ^ 64 }
-        ensures progress { progress (seen J.Journal.meaning self.new) result ≡ drained (P.Presumption.answers self.old.presumption) (progress (seen J.Journal.meaning self.old) before) }
-        ensures ready { Drained (seen J.Journal.meaning self.new) }
-        ensures few { result ≤ before + load most_stations (seen J.Journal.meaning self.old).store.post }
+    // Delivers the first message until none waits. Answers the deliveries made.
+    fn drain(&mut self) -> usize
+        requires { self.old.state.fit ≡ true }
+        ensures progress { progress self.new.state result
+            ≡ drained (P.answers self.old.presumption) (progress self.old.state 0) }
+        ensures ready { Drained self.new.state }
+        ensures few { result ≤ load most_stations self.old.state.store.post }
+        ensures bounded { result ≤ 1152 }
         ensures presumes { self.new.presumption ≡ self.old.presumption }
     {
-        let mut deliveries = before;
+        let mut deliveries = 0;
         while self.actor.waiting() > 0 {
-            let _ = self.deliver(0, false, LONG_FUSE, 0);
+            let _ = self.deliver(0, false, Fuse::LASTING);
             deliveries += 1;
         }
         deliveries
@@ -67,15 +65,16 @@ impl<J: Journal, P: Presumption> Run<J, P> {
 
     // The coordinator of a revision gives up if it is Collecting, and chases if it is Announcing.
     fn urge(&mut self, revision: u16)
-        ensures state { seen J.Journal.meaning self.new ≡ urged (P.Presumption.answers self.old.presumption) (coordinator_entry revision (seen J.Journal.meaning self.old)) revision (seen J.Journal.meaning self.old) }
+        ensures state { self.new.state
+            ≡ urged (P.answers self.old.presumption) (coordinator_entry revision self.old.state) revision self.old.state }
         ensures presumes { self.new.presumption ≡ self.old.presumption }
     {
         match self.opened_entry(revision) {
             Ok(CoordinatorEntry::Collecting { .. }) => {
-                let _ = self.give_up(revision, LONG_FUSE, 0);
+                let _ = self.give_up(revision, Fuse::LASTING);
             }
             Ok(CoordinatorEntry::Announcing { .. }) => {
-                let _ = self.chase(revision, LONG_FUSE, 0);
+                let _ = self.chase(revision, Fuse::LASTING);
             }
             _ => {}
         }
@@ -83,60 +82,59 @@ impl<J: Journal, P: Presumption> Run<J, P> {
 
     // A station that is in doubt about a revision inquires.
     fn resolve(&mut self, revision: u16, station: u8)
-        ensures state { seen J.Journal.meaning self.new ≡ inquired (P.Presumption.answers self.old.presumption) (subordinate_at (seen J.Journal.meaning self.old).stations station revision) revision station (seen J.Journal.meaning self.old) }
+        ensures state { self.new.state
+            ≡ inquired (P.answers self.old.presumption) (subordinate_at self.old.state.stations station revision) revision station self.old.state }
         ensures presumes { self.new.presumption ≡ self.old.presumption }
     {
-        match self.stations.subordinate(station, revision) {
-            SubordinateEntry::Prepared { .. } => {
-                let _ = self.inquire(revision, station, LONG_FUSE, 0);
-            }
-            _ => {}
+        if let SubordinateEntry::Prepared { .. } = self.stations.subordinate(station, revision) {
+            let _ = self.inquire(revision, station, Fuse::LASTING);
         }
     }
 
     // Brings a revision to its end: its coordinator is urged, then each station in doubt inquires, ascending.
-    fn finish(&mut self, revision: u16, before: usize) -> usize
-        requires ready { Drained (seen J.Journal.meaning self.old) }
-        requires few { before < 2 ^ 32 }
-        ensures progress { progress (seen J.Journal.meaning self.new) result ≡ finished (P.Presumption.answers self.old.presumption) revision (progress (seen J.Journal.meaning self.old) before) }
-        ensures ready { Drained (seen J.Journal.meaning self.new) }
-        ensures few { result ≤ before + 1024 }
+    // Answers the deliveries made.
+    fn finish(&mut self, revision: u16) -> usize
+        requires { Drained self.old.state }
+        ensures progress { progress self.new.state result
+            ≡ finished (P.answers self.old.presumption) revision (progress self.old.state 0) }
+        ensures ready { Drained self.new.state }
+        ensures few { result ≤ 1024 }
         ensures presumes { self.new.presumption ≡ self.old.presumption }
     {
         let stations = self.stations.len();
         self.urge(revision);
-        let mut deliveries = self.drain(before);
+        let mut deliveries = self.drain();
         for station in 0..stations {
             self.resolve(revision, station);
-            deliveries = self.drain(deliveries);
+            deliveries += self.drain();
         }
         deliveries
     }
 
     // Empties the post and finishes each revision, ascending. Answers the deliveries made.
     fn finish_all(&mut self) -> usize
-        requires fit { self.old.fit ≡ true }
-        ensures progress { progress (seen J.Journal.meaning self.new) result ≡ settled (P.Presumption.answers self.old.presumption) (seen J.Journal.meaning self.old) }
-        ensures ready { Drained (seen J.Journal.meaning self.new) }
+        requires fit { self.old.state.fit ≡ true }
+        ensures progress { progress self.new.state result
+            ≡ settled (P.answers self.old.presumption) self.old.state }
+        ensures ready { Drained self.new.state }
         ensures presumes { self.new.presumption ≡ self.old.presumption }
     {
         let revisions = self.actor.opened() as u16;
-        let mut deliveries = self.drain(0);
+        let mut deliveries = self.drain();
         for revision in 0..revisions {
-            deliveries = self.finish(revision, deliveries);
+            deliveries += self.finish(revision);
         }
         deliveries
     }
 
     /// Empties the post and brings each revision to its end. Answers the number of deliveries.
     pub fn settle(&mut self) -> Result<usize, Refusal>
-        ensures reply { reply (answer_of result) (seen J.Journal.meaning self.new) ≡ settle_call (P.Presumption.answers self.old.presumption) (seen J.Journal.meaning self.old) }
-        ensures emptied { OnOk result ((seen J.Journal.meaning self.new).store.post ≡ []) }
+        ensures reply { reply (answer_of result) self.new.state
+            ≡ settle_call (P.answers self.old.presumption) self.old.state }
+        ensures emptied { OnOk result (self.new.state.store.post ≡ []) }
         ensures presumes { self.new.presumption ≡ self.old.presumption }
     {
-        if !self.fit {
-            return Err(Refusal::Unfit);
-        }
+        self.check_fit()?;
         if !self.stations.all_have_power() {
             return Err(Refusal::NoPower);
         }

@@ -1,14 +1,13 @@
-use Rattle.std.proofs.Common.{sym, ◌∙◌, arith}
-use Rattle.run.proofs.Ready.{ready_no, ready_more, ready_all}
+use Rattle.std.proofs.Common.{length, refl, ◌∙◌, arith, rules}
+use Rattle.std.proofs.lemmas.Iterator.{YieldsList-from_range}
+use Rattle.std.proofs.lemmas.Iterator.Search.{all_from_yields_List}
+use Rattle.journal.specs.Meaning.{section}
+use Rattle.run.proofs.Ready.{all_ready_is}
+use Rattle.run.specs.State.{ready}
 use Rattle.run.proofs.run.are_ready.Goals as goal
 
 pub returns : goal.returns
-returns g c = ready_all (g.J.Journal.meaning c.args.journal.now) c.loop-station.station (omega arith) c.loop-station.invariant
-
-pub returns-then-not-is_ready : goal.returns-then-not-is_ready
-returns-then-not-is_ready g c =
-    ready_no (g.J.Journal.meaning c.args.journal.now) c.loop-station.station (omega arith) c.loop-station.invariant (sym c.is_ready.ensures ∙ c.if-not-is_ready.true)
-
-pub loop-station-preserved : goal.loop-station-preserved
-loop-station-preserved g c =
-    ready_more (g.J.Journal.meaning c.args.journal.now) c.loop-station.station (omega arith) c.loop-station.invariant (sym c.is_ready.ensures ∙ c.if-not-is_ready.false)
+returns g c =
+    let m = g.J.Journal.meaning c.args.journal.now in
+    all_from_yields_List (λ s. ready (section m s)) _ _ c.all.result c.all.ensures.ran (YieldsList-from_range 0 c.stations.result (length m) refl (omega arith)) (λ x b q k. search rules)
+    ∙ all_ready_is m

@@ -1,19 +1,13 @@
-use Rattle.std.proofs.Common.{vec_items, sym, ap, ◌∙◌, arith}
-use Rattle.stations.proofs.Groups.{power_go, power_stop, power_end}
-use Rattle.stations.specs.Stations.{all_power}
-use Rattle.station.proofs.Members.{members_all}
+use Rattle.std.proofs.Common.{rules, refl, not, ◌||◌, ◌∙◌}
+use borrow.Author.Tests.{tests}
+use Rattle.std.proofs.lemmas.Iterator.{YieldsList-from_range}
+use Rattle.std.proofs.lemmas.Iterator.Search.{all_from_yields_List}
+use Rattle.station.specs.Sets.{holds}
+use Rattle.stations.specs.Stations.{power_at}
+use Rattle.stations.proofs.Groups.{all_power-members}
 use Rattle.stations.proofs.Stations.have_power.Goals as goal
 
-pub loop-station-init : goal.loop-station-init
-loop-station-init c = ap (all_power (vec_items c.args.self.now.rows)) (members_all c.args.set)
-
-pub returns-then-misses_power : goal.returns-then-misses_power
-returns-then-misses_power c =
-    power_stop c.args.set c.loop-station.station (vec_items c.args.self.now.rows) (omega arith) (sym c.misses_power.ensures ∙ c.if-misses_power.true) ∙ c.loop-station.invariant
-
-pub loop-station-preserved : goal.loop-station-preserved
-loop-station-preserved c =
-    sym (power_go c.args.set c.loop-station.station (vec_items c.args.self.now.rows) (omega arith) (sym c.misses_power.ensures ∙ c.if-misses_power.false)) ∙ c.loop-station.invariant
-
 pub returns : goal.returns
-returns c = power_end c.args.set c.loop-station.station (vec_items c.args.self.now.rows) (omega arith) ∙ c.loop-station.invariant
+returns c =
+    all_from_yields_List (λ s. not (holds c.args.set s) || power_at c.args.self.now s) _ _ _ c.all.ensures.ran (YieldsList-from_range 0 8 8 refl refl) (λ x b q k. search (rules, tests))
+    ∙ all_power-members c.args.set c.args.self.now

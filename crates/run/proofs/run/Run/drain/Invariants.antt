@@ -1,11 +1,9 @@
 use Rattle.run.proofs.Settles.{Draining}
-use Rattle.run.specs.Runs.{seen}
-use Rattle.run.specs.Settling.{progress, load}
+use Rattle.run.specs.Settling.{load}
 use Rattle.run.proofs.run.Run.drain.Given as goal
 
 abbrev pub invariant-loop-self : goal.invariant-loop-self
-invariant-loop-self g l =
-    Draining g.P.Presumption.answers l.initial.self.presumption l.self.presumption (progress (seen g.J.Journal.meaning l.initial.self) l.before) (progress (seen g.J.Journal.meaning l.self) l.deliveries)
+invariant-loop-self g l = Draining g.P.Presumption.answers l.initial.self l.self l.deliveries
 
 abbrev pub decreases-loop-self : goal.decreases-loop-self
-decreases-loop-self g l = load 8 (seen g.J.Journal.meaning l.self).store.post
+decreases-loop-self g l = load 8 l.self.state.store.post

@@ -1,8 +1,5 @@
 use Rattle.run.proofs.Settles.{Resolving}
-use Rattle.run.specs.Runs.{seen}
-use Rattle.run.specs.Settling.{progress}
 use Rattle.run.proofs.run.Run.finish.Given as goal
 
 abbrev pub invariant-loop-station : goal.invariant-loop-station
-invariant-loop-station g l =
-    Resolving g.P.Presumption.answers l.initial.self.presumption l.self.presumption l.revision l.stations l.station (progress (seen g.J.Journal.meaning l.initial.self) l.initial.deliveries) (progress (seen g.J.Journal.meaning l.self) l.deliveries)
+invariant-loop-station g l = Resolving g.P.Presumption.answers l.revision l.stations l.station l.initial.self l.self l.initial.deliveries l.deliveries

@@ -1,6 +1,0 @@
-use Rattle.std.proofs.Common.{rules}
-use Rattle.std.proofs.lemmas.List.{set_past}
-use Rattle.stations.proofs.Stations.put_subordinate.Goals as goal
-
-pub returns-in_default : goal.returns-in_default
-returns-in_default c = search (rules, set_past)
