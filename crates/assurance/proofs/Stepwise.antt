@@ -4,6 +4,7 @@ use Rattle.std.proofs.lemmas.List.{map_push, take_more}
 use Rattle.presumption.specs.Answers.{Answers}
 use Rattle.run.specs.Answers.{Answer}
 use Rattle.run.specs.Calls.{Reply, reply}
+use Rattle.run.specs.Runs.{Shown}
 use Rattle.run.specs.State.{State}
 use Rattle.run.specs.declared.refusals.Refusal.{Refusal}
 use Rattle.assurance.specs.Lists.{called, after_calls, answers_of}
@@ -27,15 +28,20 @@ module _ (π : Answers) (c : Call) (x : Result Value Refusal) where
   suits_one (b ∷ cs) st [] a s = elim a [ ]
   suits_one (b ∷ cs) st (y ∷ xs) a s = (a.0, suits_one cs (called π b st).state xs a.1 s)
 
-  performed_one : {cs : List Call} {st u v : State} {xs : List (Result Value Refusal)} → AllPerformed π cs st u xs → reply (reported x) v ≡ called π c u → IfOk x (Suits c u) → AllPerformed π (cs ++ c ∷ []) st v (xs ++ x ∷ [])
-  performed_one {cs} {st} {u} {v} {xs} p e s =
-      let at : reply (reported x) v ≡ called π c (after_calls π cs st) = e ∙ ap (called π c) p.state in
-      record {
-        state = ap (λ (z : Reply). z.state) at ∙ sym (after_one cs st);
-        answers = map_push reported xs x ∙ (ap (λ (l : List Answer). l ++ reported x ∷ []) p.answers ∙ (ap (λ (z : Reply). answers_of π cs st ++ z.answer ∷ []) at ∙ sym (answers_one cs st)));
-        suits = suits_one cs st xs p.suits (subst (λ (z : State). IfOk x (Suits c z)) p.state s);
-      }
-
--- the next call of a list
-pub performed_next : {π : Answers} {st u v : State} {xs : List (Result Value Refusal)} (cs : List Call) (i : ℕ) (d : Call) (x : Result Value Refusal) → i < length cs → AllPerformed π (take i cs) st u xs → reply (reported x) v ≡ called π (get_or cs i d) u → IfOk x (Suits (get_or cs i d) u) → AllPerformed π (take (i + 1) cs) st v (xs ++ x ∷ [])
-performed_next {π} cs i d x l p e s = rw (take_more cs i d l) (performed_one π (get_or cs i d) x p e s)
+module _ {P : Type 0} (asked : P → Answers) {run u v : Shown P} {xs : List (Result Value Refusal)} where
+  -- the next call of a list
+  pub performed_next : (cs : List Call) (i : ℕ) (d : Call) (x : Result Value Refusal) → i < length cs → AllPerformed asked (take i cs) run u xs
+      → reply (reported x) v.state ≡ called (asked u.presumption) (get_or cs i d) u.state → IfOk x (Suits (get_or cs i d) u.state) → v.presumption ≡ u.presumption
+      → AllPerformed asked (take (i + 1) cs) run v (xs ++ x ∷ [])
+  performed_next cs i d x l p e s k =
+      let c = get_or cs i d in
+      let π = asked run.presumption in
+      let done = take i cs in
+      let at : reply (reported x) v.state ≡ called π c (after_calls π done run.state) = e ∙ (λ j. called (asked (p.presumption j)) c (p.state j)) in
+      rw (take_more cs i d l)
+      (record {
+        presumption = k ∙ p.presumption;
+        state = ap (λ (z : Reply). z.state) at ∙ sym (after_one π c x done run.state);
+        answers = map_push reported xs x ∙ (ap (λ (l : List Answer). l ++ reported x ∷ []) p.answers ∙ (ap (λ (z : Reply). answers_of π done run.state ++ z.answer ∷ []) at ∙ sym (answers_one π c x done run.state)));
+        suits = suits_one π c x done run.state xs p.suits (subst (λ (z : State). IfOk x (Suits c z)) p.state s);
+      })

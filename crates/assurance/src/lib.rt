@@ -4,8 +4,8 @@
 ghost use Rattle.std.specs.Prelude.{◌≡◌, true, IfOk};
 ghost use Rattle.assurance.specs.Marked.{AllAsMarked};
 ghost use Rattle.assurance.specs.Outcomes.{Sound, OneOutcome};
-ghost use Rattle.assurance.specs.Played.{AllPerformed};
-ghost use Rattle.run.specs.State.{fits, fresh};
+ghost use Rattle.assurance.specs.Played.{AllPerformed, new_run};
+ghost use Rattle.run.specs.State.{fits};
 
 pub mod calls;
 
@@ -29,8 +29,7 @@ fn perform_all<J: Journal, P: Presumption>(
     run: &mut Run<J, P>,
     calls: &[Call],
 ) -> Result<Vec<Result<Value, Refusal>>, AllocError>
-    ensures performed { IfOk result (λ xs. AllPerformed (P.answers run.old.presumption) calls.now run.old.state run.new.state xs.items) }
-    ensures presumes { run.new.presumption ≡ run.old.presumption }
+    ensures { IfOk result (λ xs. AllPerformed P.answers calls.now run.old run.new xs.items) }
 {
     let mut answers = Vec::new(heap);
     for call in calls {
@@ -48,8 +47,7 @@ pub fn play<J: Journal + Drop, P: Presumption + Drop>(
     presumption: P,
     calls: &[Call],
 ) -> Result<Played<J, P>, AllocError>
-    ensures performed { IfOk result (λ x. AllPerformed (P.answers presumption) calls.now (fresh (J.meaning journal)) x.run.state x.answers.items) }
-    ensures presumes { IfOk result (λ x. x.run.presumption ≡ presumption) }
+    ensures performed { IfOk result (λ x. AllPerformed P.answers calls.now (new_run presumption (J.meaning journal)) x.run x.answers.items) }
     ensures sound { IfOk result (λ x. fits (J.meaning journal) ≡ true → Sound (P.answers presumption) x.run.state) }
     ensures outcome { OneOutcome }
     ensures marked { AllAsMarked }

@@ -1,8 +1,6 @@
-use Rattle.std.proofs.Common.{◌≡◌, take, vec_items}
+use Rattle.std.proofs.Common.{take, vec_items}
 use Rattle.assurance.specs.Played.{AllPerformed}
 use Rattle.assurance.proofs.perform_all.Given as goal
 
 abbrev pub invariant-loop-call : goal.invariant-loop-call
-invariant-loop-call g l =
-    AllPerformed (g.P.Presumption.answers l.initial.run.presumption) (take l.call-index l.calls) l.initial.run.state l.run.state (vec_items l.answers)
-    × (l.run.presumption ≡ l.initial.run.presumption)
+invariant-loop-call g l = AllPerformed g.P.Presumption.answers (take l.call-index l.calls) l.initial.run l.run (vec_items l.answers)
