@@ -3,7 +3,7 @@ use Rattle.std.proofs.Common.{◌≡◌, ℕ, ◌+◌, ◌^◌, ◌<◌, ◌≤�
 use Rattle.std.specs.List.{AllByRecursion, range_with_len, sum_by}
 use Rattle.std.proofs.ByRecursion.{All-weaker, All-get_or, All-append, All-take, All-drop}
 use Rattle.std.proofs.lemmas.Bool.{or_from, cond_both, cond-true, cond-false, cases_Bool, true≢false, ne_eqb, and_parts, not-true, cases_lt, ltb-true}
-use Rattle.assurance.proofs.Ideal.{updated, in_set, members, Kind, kp, kc, ka, Record, is, has, CoordinatorEntry, none, Open, SubordinateEntry, idle, Active, Prepared, Station, ACK, Message, Plan, Run, Presumption, at_station, cut_station, with_post, Act, Turn, step, letter, handed, restarted_station, upon_open, drop_at, Call, open_revision, close, give_up, chase, reject, inquire, deliver, lose, cut, restart, settle, look, all_powered, hand_first, emptied, urged, asked, inquire_all, revise, revise_all, settled, fits, call, calls}
+use Rattle.assurance.proofs.Ideal.{updated, in_set, members, Kind, kp, kc, ka, Record, is, has, CoordinatorEntry, none, Open, SubordinateEntry, idle, Active, Prepared, Station, Message, Plan, Run, Presumption, at_station, cut_station, with_post, Act, Turn, step, letter, handed, restarted_station, upon_open, drop_at, Call, open_revision, close, give_up, chase, reject, inquire, deliver, lose, cut, restart, settle, look, all_powered, hand_first, emptied, urged, asked, inquire_all, revise, revise_all, settled, fits, call, calls, PREPARE}
 use Rattle.assurance.proofs.Lasting.{Got, No, world, Legal, SubLegal}
 use Rattle.assurance.proofs.Sets.{mem_zero, mem_below}
 use Rattle.assurance.proofs.Claims.{Laws, Quiet, new}
@@ -188,11 +188,11 @@ module _ (π : Presumption) (𝓛 : Laws π) where
     by_station r s f k P st v h safe d q = if_asked (ltb s π.size && (st.station s).power) st r s s f k P v h (λ _. safe) (λ e. (and_parts _ _ e).1) (lt_of s _) (lt_of s _) d q
 
     -- a message that is handed over
-    by_message : (m : Message) (f k : ℕ) (st : Run) → Legal π (world st) m → NearM π.size m → Full st → Q st → Q (cond (st.station m.to).power (handed π m.mail m.revision m.to m.from f k st) st)
-    by_message m f k st l n h q = go (st.station m.to).power refl
+    by_message : (m : Message) (f k : ℕ) (st : Run) → Legal π (world st) m → NearM π.size m → Full st → Q st → Q (cond (st.station m.receiver).power (handed π m.kind m.revision m.receiver m.sender f k st) st)
+    by_message m f k st l n h q = go (st.station m.receiver).power refl
       where
-        go : (b : Bool) → (st.station m.to).power ≡ b → Q (cond b (handed π m.mail m.revision m.to m.from f k st) st)
-        go true on = K.stepped st m.revision m.to m.from f k (λ u. For π u m.mail) _ h (safe_handed π 𝓛 m.mail m.revision m.to m.from f k st on h.inv l) on n.1 n.0 (did_handed π m.mail m.revision m.to m.from f k st) q
+        go : (b : Bool) → (st.station m.receiver).power ≡ b → Q (cond b (handed π m.kind m.revision m.receiver m.sender f k st) st)
+        go true on = K.stepped st m.revision m.receiver m.sender f k (λ u. For π u m.kind) _ h (safe_handed π 𝓛 m.kind m.revision m.receiver m.sender f k st on h.inv l) on n.1 n.0 (did_handed π m.kind m.revision m.receiver m.sender f k st) q
         go false on = q
 
     first_kept : (m : Message) (ms : List Message) (st : Run) → m ∷ ms ≡ st.post → Full st → Q st → Q (hand_first π m (with_post ms st))
@@ -226,11 +226,11 @@ module _ (π : Presumption) (𝓛 : Laws π) where
     call_kept (inquire r s f k) st h q = by_station Q K r s f k _ st _ h (safe_inquire π 𝓛 r s ((st.station s).subordinates r) f k st h.inv.safe refl) (did_inquire π r s f k st ((st.station s).subordinates r) refl) q
     call_kept (deliver i copy f k) st h q =
         cond_both (ltb i (length st.post)) _ st Q
-        (λ lt. let m : Message = get_or st.post i (letter ACK 0 0 0) in
+        (λ lt. let m : Message = get_or st.post i (letter PREPARE 0 0 0) in
         let p : List Message = cond copy st.post (drop_at i st.post) in
         let l = left_of copy (Legal π (world st)) i st.post h.inv.safe.msgs in
         let n = left_of copy (NearM π.size) i st.post h.near.posts in
-        by_message Q K m f k (with_post p st) (All-get_or _ st.post i (letter ACK 0 0 0) (ltb-true i (length st.post) lt) h.inv.safe.msgs) (All-get_or _ st.post i (letter ACK 0 0 0) (ltb-true i (length st.post) lt) h.near.posts) (full_post st p l n h) (K.posted st p l n h q))
+        by_message Q K m f k (with_post p st) (All-get_or _ st.post i (letter PREPARE 0 0 0) (ltb-true i (length st.post) lt) h.inv.safe.msgs) (All-get_or _ st.post i (letter PREPARE 0 0 0) (ltb-true i (length st.post) lt) h.near.posts) (full_post st p l n h) (K.posted st p l n h q))
         (λ _. q)
       where
         left_of : (copy : Bool) (P : Message → Type 0) (i : ℕ) (p : List Message) → AllByRecursion P p → AllByRecursion P (cond copy p (drop_at i p))

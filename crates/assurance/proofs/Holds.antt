@@ -1,6 +1,5 @@
 -- What holds of the ideal run, said of a run.
 use Rattle.std.proofs.Common.{◌≡◌, ℕ, zero, suc, ◌+◌, ◌*◌, ◌^◌, ◌<◌, ◌≤◌, Bool, true, false, cond, not, ◌&&◌, eqb, ltb, leb, ◌↔◌, List, [], ◌∷◌, map, length, sym, refl, ap, ◌∙◌, subst, inl, inr, mul-le-mul_right, arith}
-use lib.ListN.{length-map}
 use Rattle.std.proofs.lemmas.Bool.{cond-true, cond-false, cases_lt, eqb-true, and_parts, ltb-true, leb-true, le-ltb, lt-ltb}
 use Rattle.std.proofs.lemmas.List.{get_or_past, nil_from_length}
 use Rattle.std.specs.List.{AllByRecursion, range_with_len}
@@ -8,18 +7,16 @@ use Rattle.journal.specs.Meaning.{Section, section, held, no_section}
 use Rattle.journal.specs.declared.records.Kind.{Kind}
 use Rattle.journal.specs.declared.records.Kind.TheVariants as kind
 use Rattle.presumption.specs.Answers.{Answers, Lawful}
-use Rattle.station.specs.declared.subordinate.SubordinateEntry.TheVariants as subordinate
 use Rattle.run.specs.State.{State, fits}
 use Rattle.stations.specs.Stations.{station_at, no_station, power_at}
 use Rattle.stations.specs.declared.Station.{Station}
-use Rattle.station.specs.declared.subordinate.SubordinateEntry.{SubordinateEntry}
 use Rattle.assurance.proofs.Ideal as ideal
 use Rattle.station.specs.Sets.{empty}
 use Rattle.assurance.proofs.Sets.{mem_below}
 use Rattle.assurance.proofs.Every.{doubt_is, is_doubt, Full}
 use Rattle.assurance.proofs.Lasting.{world}
 use Rattle.assurance.proofs.SafeRules.{has_legal}
-use Rattle.assurance.proofs.View.{kind_as, outcome_as, record_as, message_as, co_as, sub_as, station_as, view}
+use Rattle.assurance.proofs.View.{co_as, station_as, view}
 use lib.ListN.{get_or-replicate, length-replicate}
 use Rattle.std.proofs.ByRecursion.{All-weaker}
 use Rattle.run.specs.Answers.{answered}
@@ -29,7 +26,7 @@ use Rattle.assurance.specs.declared.calls.Call.TheVariants.{Open, Close, Settle}
 use Rattle.assurance.specs.Lists.{lasting, called, after_calls}
 use Rattle.run.specs.Settling.{settled}
 use Rattle.run.specs.State.{ready, all_ready, fresh}
-use Rattle.stations.specs.Stations.{no_entries, entries_for, subordinate_at, blank, all_power}
+use Rattle.stations.specs.Stations.{no_entries, entries_for, blank, all_power}
 use Rattle.stations.specs.declared.Entries.{Entries}
 use Rattle.station.specs.Sets.{below}
 use Rattle.assurance.proofs.Every.{full_new}
@@ -48,9 +45,6 @@ use Rattle.assurance.specs.Outcomes.{InDoubt, Undecided, Dropped, Lacks, AllPowe
 fits_small : (n c a : ℕ) → ideal.fits n c a ≡ true → a < 2 ^ n
 unfolding ideal.fits
 fits_small n c a e = ltb-true _ _ (and_parts (ltb a (2 ^ n)) (not (eqb a 0)) (and_parts (ltb c n) (ltb a (2 ^ n) && not (eqb a 0)) e).1).0
-
-none_mapped : {X Y : Type 0} (f : X → Y) (l : List X) → map f l ≡ [] → l ≡ []
-none_mapped f l e = nil_from_length l (sym (length-map l f) ∙ ap length e)
 
 pub record Blank (p : Section) : Type 0 where
   pub stable : p.stable ≡ []
@@ -79,9 +73,9 @@ blank_co : (r : ℕ) → co_as (entries_for r (blank true)).coordinator ≡ idea
 unfolding blank
 blank_co r = ap (λ (z : Entries). co_as z.coordinator) (same_entry 0 32 r no_entries)
 
-blank_sub : (r : ℕ) → sub_as (entries_for r (blank true)).subordinate ≡ ideal.idle
+blank_sub : (r : ℕ) → (entries_for r (blank true)).subordinate ≡ ideal.idle
 unfolding blank
-blank_sub r = ap (λ (z : Entries). sub_as z.subordinate) (same_entry 0 32 r no_entries)
+blank_sub r = ap (λ (z : Entries). z.subordinate) (same_entry 0 32 r no_entries)
 
 blank_power : (blank true).power ≡ true
 unfolding blank
@@ -127,8 +121,8 @@ module _ (π : Answers) (𝓗 : Lawful π) (m : List Section) (ok : fits m ≡ t
   fresh_station : (s : ℕ) → station_as n s (section m s) (station_at (fresh m).stations s) ≡ told.up
   fresh_station s =
       elim (cases_lt s n) [
-        | inl l ↦ ap (station_as n s (section m s)) (one_station s l) ∙ (λ i. record { power = on (ltb s n) i; stable = map record_as ((blank_at m s sizes.2).stable i); loose = map record_as ((blank_at m s sizes.2).unforced i); coordinators = λ r. blank_co r i; subordinates = λ r. blank_sub r i })
-        | inr l ↦ ap (station_as n s (section m s)) (get_or_past (fresh m).stations s no_station (omega (arith, length-replicate n (blank true)))) ∙ (λ i. record { power = cond-false (ltb s n) false true (le-ltb s n l) i; stable = map record_as ((blank_at m s sizes.2).stable i); loose = map record_as ((blank_at m s sizes.2).unforced i); coordinators = λ r. ideal.none; subordinates = λ r. ideal.idle })
+        | inl l ↦ ap (station_as n s (section m s)) (one_station s l) ∙ (λ i. record { power = on (ltb s n) i; stable = ((blank_at m s sizes.2).stable i); loose = ((blank_at m s sizes.2).unforced i); coordinators = λ r. blank_co r i; subordinates = λ r. blank_sub r i })
+        | inr l ↦ ap (station_as n s (section m s)) (get_or_past (fresh m).stations s no_station (omega (arith, length-replicate n (blank true)))) ∙ (λ i. record { power = cond-false (ltb s n) false true (le-ltb s n l) i; stable = ((blank_at m s sizes.2).stable i); loose = ((blank_at m s sizes.2).unforced i); coordinators = λ r. ideal.none; subordinates = λ r. ideal.idle })
       ]
     where
       on : (b : Bool) → cond b (blank true).power true ≡ true
@@ -178,16 +172,16 @@ module _ (π : Answers) (𝓗 : Lawful π) (m : List Section) (ok : fits m ≡ t
         )
 
     room : (s : ℕ) → held (section st.store.journal s) ≤ 160
-    room s = omega (arith, known.room s, length-map (section st.store.journal s).stable record_as, length-map (section st.store.journal s).unforced record_as)
+    room s = known.room s
 
     quiet : (v : State) → told.Quiet (view n v) → Quiet v
     unfolding ideal.in_set
     quiet v k =
         record {
-          empty = none_mapped message_as v.store.post k.posted;
-          no_doubt = λ r s d. k.doubt r s d.0 (ap sub_as d.1);
+          empty = k.posted;
+          no_doubt = λ r s d. k.doubt r s d.0 d.1;
           no_vote = λ r s x y e. k.voting r s x.bits y.bits (ap co_as e);
-          none_awaited = λ r s o w e. k.telling r s (outcome_as o) w.bits (ap co_as e);
+          none_awaited = λ r s o w e. k.telling r s o w.bits (ap co_as e);
           installed = λ r s c d. k.everywhere r s (has_as kind.Commit r (section v.store.journal (coordinator_of r v)).stable ∙ c) d;
         }
 
@@ -199,8 +193,7 @@ module _ (π : Answers) (𝓗 : Lawful π) (m : List Section) (ok : fits m ≡ t
         let d = (settled_view π 𝓗 n sizes.0 sizes.1 st g).made in
         let within : (settled π st).deliveries ≤ (2 * length st.stations + 2) * length st.store.post + 5 * length st.stations * length st.store.log =
         subst (λ (x : ℕ). (settled π st).deliveries ≤ (2 * x + 2) * length st.store.post + 5 * x * length st.store.log) (sym long)
-        (subst (λ (x : ℕ). (settled π st).deliveries ≤ (2 * n + 2) * x + 5 * n * length st.store.log) (length-map st.store.post message_as)
-        (subst (λ (x : ℕ). x ≤ (2 * n + 2) * length (view n st).post + 5 * n * length st.store.log) (sym d) k.1)) in
+        (subst (λ (x : ℕ). x ≤ (2 * n + 2) * length (view n st).post + 5 * n * length st.store.log) (sym d) k.1) in
         record {
           quiet = quiet (called π Settle st).state (subst told.Quiet (sym e) k.0);
           answers = λ i. (cond (g.shape.fit i) (cond (all_powered st.stations (range_with_len 0 (length st.stations)) (All-weaker _ _ (λ s l. on s l) (range_with_len 0 (length st.stations)) (counting_below 0 (length st.stations) (length st.stations) (omega arith))) i) (reply (answered (settled π st).deliveries) (settled π st).state) (refuse 4 st)) (refuse 1 st)).answer;
@@ -222,22 +215,18 @@ module _ (π : Answers) (𝓗 : Lawful π) (m : List Section) (ok : fits m ≡ t
     near : (r s : ℕ) → ideal.has ideal.kp r (V.station s).stable ≡ true → s < n
     near r s e = g.full.near.sets r s (has_legal Q (world V) s ideal.kp r (V.station s).stable (g.full.inv.safe.recs s).0 e).1.1
 
-    back : (k : Kind) (r s : ℕ) → Lacks k st r s → (ideal.has (kind_as k) r (V.station s).stable ≡ false) × (ideal.has (kind_as k) r (V.station s).loose ≡ false)
+    back : (k : Kind) (r s : ℕ) → Lacks k st r s → (ideal.has k r (V.station s).stable ≡ false) × (ideal.has k r (V.station s).loose ≡ false)
     back k r s h = (has_as k r (section st.store.journal s).stable ∙ h.0, has_as k r (section st.store.journal s).unforced ∙ h.1)
 
-    forth : (k : Kind) (r s : ℕ) → (ideal.has (kind_as k) r (V.station s).stable ≡ false) × (ideal.has (kind_as k) r (V.station s).loose ≡ false) → Lacks k st r s
+    forth : (k : Kind) (r s : ℕ) → (ideal.has k r (V.station s).stable ≡ false) × (ideal.has k r (V.station s).loose ≡ false) → Lacks k st r s
     forth k r s h = (sym (has_as k r (section st.store.journal s).stable) ∙ h.0, sym (has_as k r (section st.store.journal s).unforced) ∙ h.1)
-
-    prepared_is : (e : SubordinateEntry) (d : ℕ) → sub_as e ≡ ideal.Prepared d → e ≡ subordinate.Prepared d
-    prepared_is (subordinate.Prepared c) d q = cc
-    prepared_is e d q = let z : ◌≡◌ {A = ℕ} 0 1 = cc in absurd (omega arith)
 
     powered_is : (s : ℕ) → s < n → (V.station s).power ≡ power_at st.stations s
     powered_is s l = cond-true (ltb s n) _ _ (lt-ltb s n l)
 
     doubt : (r s : ℕ) → InDoubt st r s ↔ Undecided st r s
     doubt r s = (
-      λ d. let k = doubt_is Q 𝓛 V g.full r s d.0 (ap sub_as d.1) in
+      λ d. let k = doubt_is Q 𝓛 V g.full r s d.0 d.1 in
           record {
             powered = sym (powered_is s (near r s k.1)) ∙ k.0;
             prepared = sym (has_as kind.Prepared r (section st.store.journal s).stable) ∙ k.1;
@@ -246,7 +235,7 @@ module _ (π : Answers) (𝓗 : Lawful π) (m : List Section) (ok : fits m ≡ t
           },
       λ u. let p : ideal.has ideal.kp r (V.station s).stable ≡ true = has_as kind.Prepared r (section st.store.journal s).stable ∙ u.prepared in
           let k = is_doubt Q 𝓛 V g.full r s (powered_is s (near r s p) ∙ u.powered) p (back kind.Committed r s u.no_commit) (back kind.Aborted r s u.no_abort) in
-          (k.0, prepared_is (subordinate_at st.stations s r) k.0 k.1),
+          (k.0, k.1),
     )
 
     sound : Sound π st

@@ -1,15 +1,15 @@
 -- The two invariants together, and the steps that keep both.
-use Rattle.std.proofs.Common.{◌≡◌, ℕ, ◌<◌, true, false, List, ◌∷◌, sym, refl, ◌∙◌, subst, inl, inr, arith}
+use Rattle.std.proofs.Common.{◌≡◌, ℕ, true, false, List, ◌∷◌, sym, refl, ◌∙◌, subst, inl, inr, arith}
 use Rattle.std.specs.List.{AllByRecursion}
 use Rattle.std.proofs.lemmas.Bool.Decides.{nat_tests}
 use Rattle.std.proofs.lemmas.Bool.{cond_both, cases_Bool, true≢false}
-use Rattle.assurance.proofs.Ideal.{Kind, kI, kC, kA, kp, code, Record, has, argument_of, CoordinatorEntry, Collecting, Announcing, MessageKind, PREPARE, YES, NO, COMMIT, ABORT, ACK, INQUIRY, Message, Run, Presumption, with_post, letter, upon_inquire, handed, upon_open, hand_first, nudge, urged, asked}
+use Rattle.assurance.proofs.Ideal.{Kind, kI, kC, kA, kp, Record, has, argument_of, CoordinatorEntry, Collecting, Announcing, MessageKind, PREPARE, YES, NO, COMMIT, ABORT, ACK, INQUIRY, Message, Run, Presumption, with_post, letter, upon_inquire, handed, upon_open, hand_first, nudge, urged, asked}
 use Rattle.assurance.proofs.Lasting.{No, Doom, world, head, Abort, Legal, RecLegal}
 use Rattle.assurance.proofs.SafeActs.{SafeSt}
 use Rattle.assurance.proofs.Claims.{Laws}
 use Rattle.assurance.proofs.SafeRules.{has_legal, safe_inquiry, safe_ack, safe_commit, safe_abort, safe_prepare, safe_give_up, safe_no}
 use Rattle.assurance.proofs.SafeCalls.{safe_yes, safe_chase, safe_inquire}
-use Rattle.assurance.proofs.Tidy.{Tidy, tidy_did}
+use Rattle.assurance.proofs.Tidy.{Tidy, tidy_did, Carries}
 use Rattle.assurance.proofs.Rules.{Rule, For, Did, did_handed, did_inquire, did_nudge}
 
 module _ (π : Presumption) (𝓛 : Laws π) where
@@ -46,8 +46,8 @@ module _ (π : Presumption) (𝓛 : Laws π) where
   inv_first m ms st e h =
       let a : AllByRecursion (Legal π (world st)) (m ∷ ms) = subst (AllByRecursion (Legal π (world st))) (sym e) h.safe.msgs in
       let h' : Inv (with_post ms st) = inv_post st ms h a.1 in
-      cond_both (st.station m.to).power (handed π m.mail m.revision m.to m.from 255 0 (with_post ms st)) (with_post ms st) Inv
-      (λ on. inv_did (with_post ms st) m.revision m.to m.from 255 0 (λ u. For π u m.mail) _ on (safe_handed m.mail m.revision m.to m.from 255 0 (with_post ms st) on h' a.0) (did_handed π m.mail m.revision m.to m.from 255 0 (with_post ms st)) h')
+      cond_both (st.station m.receiver).power (handed π m.kind m.revision m.receiver m.sender 255 0 (with_post ms st)) (with_post ms st) Inv
+      (λ on. inv_did (with_post ms st) m.revision m.receiver m.sender 255 0 (λ u. For π u m.kind) _ on (safe_handed m.kind m.revision m.receiver m.sender 255 0 (with_post ms st) on h' a.0) (did_handed π m.kind m.revision m.receiver m.sender 255 0 (with_post ms st)) h')
       (λ _. h')
 
   pub inv_asked : (r s : ℕ) (st : Run) → Inv st → Inv (asked π r s st)
@@ -86,11 +86,11 @@ module _ (π : Presumption) (𝓛 : Laws π) where
         dark = (h s).dark;
       }
 
-  pub args_of : (s : ℕ) (st : Run) → SafeSt π st → (k : Kind) (q : ℕ) → code k < 3 → has k q (st.station s).stable ≡ true → argument_of k q (st.station s).stable ≡ (st.plan q).names
+  pub args_of : (s : ℕ) (st : Run) → SafeSt π st → (k : Kind) (q : ℕ) → Carries k → has k q (st.station s).stable ≡ true → argument_of k q (st.station s).stable ≡ (st.plan q).names
   args_of s st h kI q l e = (has_legal π (world st) s kI q (st.station s).stable (h.recs s).0 e).1.1
   args_of s st h kC q l e = (has_legal π (world st) s kC q (st.station s).stable (h.recs s).0 e).1.1
   args_of s st h kA q l e = (has_legal π (world st) s kA q (st.station s).stable (h.recs s).0 e).1.1
-  args_of s st h k q l e = absurd (omega arith)
+  args_of s st h k q l e = absurd l
 
   -- what is surely aborted has no commit record anywhere, stable or not
   pub no_commit : (st : Run) → SafeSt π st → (r s : ℕ) → Abort (world st) r → No kC r (st.station s)

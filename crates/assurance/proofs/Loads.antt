@@ -23,18 +23,18 @@ weigh_most n m h = omega arith
 
 pub load_most : (n : ℕ) (l : List Message) → 1 ≤ n → load n l ≤ (2 * n + 2) * length l
 load_most n [] h = omega arith
-load_most n (m ∷ l) h = omega (arith, weigh_most n m.mail h, load_most n l h)
+load_most n (m ∷ l) h = omega (arith, weigh_most n m.kind h, load_most n l h)
 
 -- what an act posts weighs, and what a list of acts does
 abbrev posts : ℕ → Act → ℕ
-posts n (send m) = weigh n m.mail
+posts n (send m) = weigh n m.kind
 posts n a = 0
 
 abbrev pub posted : ℕ → List Act → ℕ
 posted n l = sum_by (posts n) l
 
-load_send : (n : ℕ) (m : Message) (st : Run) → load n (with_message m st).post ≤ weigh n m.mail + load n st.post
-load_send n m st = cond_both (ltb (length st.post) 64) (st.post ++ (m ∷ [])) st.post (λ p. load n p ≤ weigh n m.mail + load n st.post) (λ _. omega (arith, load_append n st.post (m ∷ []))) (λ _. omega arith)
+load_send : (n : ℕ) (m : Message) (st : Run) → load n (with_message m st).post ≤ weigh n m.kind + load n st.post
+load_send n m st = cond_both (ltb (length st.post) 64) (st.post ++ (m ∷ [])) st.post (λ p. load n p ≤ weigh n m.kind + load n st.post) (λ _. omega (arith, load_append n st.post (m ∷ []))) (λ _. omega arith)
 
 load_act : (n s : ℕ) (a : Act) (st : Run) → load n (act_done s a st).post ≤ posts n a + load n st.post
 load_act n s (send m) st = load_send n m st
@@ -104,16 +104,16 @@ module _ (π : Presumption) (𝓛 : Laws π) where
       (omega (arith, weigh_some π.size m))
       (λ u w e. omega (arith, load_step π.size s (acts_of π u r s t) (turn_of π u r) f k st, posted_rule u m r s t e))
 
-  load_first : (m : Message) (st : Run) → load π.size (hand_first π m st).post < weigh π.size m.mail + load π.size st.post
+  load_first : (m : Message) (st : Run) → load π.size (hand_first π m st).post < weigh π.size m.kind + load π.size st.post
   load_first m st =
-      cond_both (st.station m.to).power (handed π m.mail m.revision m.to m.from 255 0 st) st (λ (u : Run). load π.size u.post < weigh π.size m.mail + load π.size st.post)
-      (λ _. load_handed m.mail m.revision m.to m.from 255 0 st)
-      (λ _. omega (arith, weigh_some π.size m.mail))
+      cond_both (st.station m.receiver).power (handed π m.kind m.revision m.receiver m.sender 255 0 st) st (λ (u : Run). load π.size u.post < weigh π.size m.kind + load π.size st.post)
+      (λ _. load_handed m.kind m.revision m.receiver m.sender 255 0 st)
+      (λ _. omega (arith, weigh_some π.size m.kind))
 
   drained : (fuel : ℕ) (p : List Message) (st : Run) (k : ℕ) → p ≡ st.post → load π.size p ≤ fuel → ((drain π fuel p st k).left.post ≡ []) × ((drain π fuel p st k).made ≤ k + load π.size p)
   unfolding drain
   drained zero [] st k e h = (sym e, omega arith)
-  drained zero (m ∷ ms) st k e h = absurd (omega (arith, weigh_some π.size m.mail, h))
+  drained zero (m ∷ ms) st k e h = absurd (omega (arith, weigh_some π.size m.kind, h))
   drained (suc fuel) [] st k e h = (sym e, omega arith)
   drained (suc fuel) (m ∷ ms) st k e h =
       let u = hand_first π m (with_post ms st) in
@@ -127,10 +127,10 @@ module _ (π : Presumption) (𝓛 : Laws π) where
   same_drain zero zero [] st k a b = refl
   same_drain zero (suc g) [] st k a b = refl
   same_drain zero zero (m ∷ ms) st k a b = refl
-  same_drain zero (suc g) (m ∷ ms) st k a b = absurd (omega (arith, weigh_some π.size m.mail))
+  same_drain zero (suc g) (m ∷ ms) st k a b = absurd (omega (arith, weigh_some π.size m.kind))
   same_drain (suc f) zero [] st k a b = refl
   same_drain (suc f) (suc g) [] st k a b = refl
-  same_drain (suc f) zero (m ∷ ms) st k a b = absurd (omega (arith, weigh_some π.size m.mail))
+  same_drain (suc f) zero (m ∷ ms) st k a b = absurd (omega (arith, weigh_some π.size m.kind))
   same_drain (suc f) (suc g) (m ∷ ms) st k a b =
       let u = hand_first π m (with_post ms st) in
       let l = load_first m (with_post ms st) in

@@ -62,7 +62,7 @@ vweigh m = 0
 
 abbrev pub vload : List Message → ℕ
 vload [] = 0
-vload (m ∷ l) = vweigh m.mail + vload l
+vload (m ∷ l) = vweigh m.kind + vload l
 
 vload_append : (l k : List Message) → vload (l ++ k) ≡ vload l + vload k
 vload_append [] k = omega arith
@@ -87,7 +87,7 @@ module _ (π : Presumption) (𝓛 : Laws π) (r c all : ℕ) (st0 : Run) (sets :
   VoteOf m q s t = ⊥
 
   abbrev pub VoteM : Message → Type 0
-  VoteM m = VoteOf m.mail m.revision m.from m.to
+  VoteM m = VoteOf m.kind m.revision m.sender m.receiver
 
   abbrev pub Cover : ℕ → List Message → Type 0
   Cover ys p = (u : ℕ) → in_set all u ≡ true → In (letter PREPARE r c u) p ⊎ (In (letter YES r u c) p ⊎ (in_set ys u ≡ true))
@@ -152,8 +152,8 @@ module _ (π : Presumption) (𝓛 : Laws π) (r c all : ℕ) (st0 : Run) (sets :
           busy = λ t i. prepare_busy s ms st ((st.station s).subordinates r) t busy (v.busy t i);
           posts = rw p (All-push _ ms (letter YES r s c) v.posts.1 (refl, refl, m));
           cover = rw p (λ u i. elim (v.cover u i) [
-            | inl j ↦ elim j [ inl e ↦ inr (inl (subst (λ (x : ℕ). In (letter YES r x c) (ms ++ (letter YES r s c ∷ []))) (ap (λ (x : Message). x.to) e) (in_last (letter YES r s c) ms))) | inr e ↦ inl (in_left _ ms (letter YES r s c ∷ []) e) ]
-            | inr j ↦ elim j [ inl k ↦ elim k [ inl e ↦ absurd (differ (ap (λ (x : Message). x.mail) e)) | inr e ↦ inr (inl (in_left _ ms (letter YES r s c ∷ []) e)) ] | inr k ↦ inr (inr k) ]
+            | inl j ↦ elim j [ inl e ↦ inr (inl (subst (λ (x : ℕ). In (letter YES r x c) (ms ++ (letter YES r s c ∷ []))) (ap (λ (x : Message). x.receiver) e) (in_last (letter YES r s c) ms))) | inr e ↦ inl (in_left _ ms (letter YES r s c ∷ []) e) ]
+            | inr j ↦ elim j [ inl k ↦ elim k [ inl e ↦ absurd (differ (ap (λ (x : Message). x.kind) e)) | inr e ↦ inr (inl (in_left _ ms (letter YES r s c ∷ []) e)) ] | inr k ↦ inr (inr k) ]
           ]);
           few = rw p (omega (arith, few, length-append ms (letter YES r s c ∷ [])));
           left = rw p (omega (arith, vload_append ms (letter YES r s c ∷ [])));
@@ -184,8 +184,8 @@ module _ (π : Presumption) (𝓛 : Laws π) (r c all : ℕ) (st0 : Run) (sets :
           busy = λ x i. subst Busy (sym (sub_co (Collecting all (with_station v.ys t)) (with_post ms st) x r)) (v.busy x i);
           posts = v.posts.1;
           cover = λ u i. elim (v.cover u i) [
-            | inl j ↦ elim j [ inl e ↦ absurd (no_yes (ap (λ (x : Message). x.mail) e)) | inr e ↦ inl e ]
-            | inr j ↦ elim j [ inl k ↦ elim k [ inl e ↦ inr (inr (subst (λ (x : ℕ). in_set (with_station v.ys t) x ≡ true) (ap (λ (x : Message). x.from) e) (add_self v.ys t))) | inr e ↦ inr (inl e) ] | inr k ↦ inr (inr (add_keeps v.ys t u k)) ]
+            | inl j ↦ elim j [ inl e ↦ absurd (no_yes (ap (λ (x : Message). x.kind) e)) | inr e ↦ inl e ]
+            | inr j ↦ elim j [ inl k ↦ elim k [ inl e ↦ inr (inr (subst (λ (x : ℕ). in_set (with_station v.ys t) x ≡ true) (ap (λ (x : Message). x.sender) e) (add_self v.ys t))) | inr e ↦ inr (inl e) ] | inr k ↦ inr (inr (add_keeps v.ys t u k)) ]
           ];
           few = omega arith;
           left = omega arith;
@@ -267,8 +267,8 @@ module _ (π : Presumption) (𝓛 : Laws π) (r c all : ℕ) (st0 : Run) (sets :
   going_first : (b : ℕ) (m : Message) (ms : List Message) (st : Run) → m ∷ ms ≡ st.post → Going b st → (d : ℕ) × (suc d ≤ b) × Going d (hand_first π m (with_post ms st))
   going_first b m ms st e g =
       let f = first_on π 𝓛 m ms st g.on in
-      let D = did_handed π m.mail m.revision m.to m.from 255 0 (with_post ms st) in
-      let side = aside_did π 𝓛 (with_post ms st) m.revision m.to m.from (λ u. For π u m.mail) _ D in
+      let D = did_handed π m.kind m.revision m.receiver m.sender 255 0 (with_post ms st) in
+      let side = aside_did π 𝓛 (with_post ms st) m.revision m.receiver m.sender (λ u. For π u m.kind) _ D in
       let q = step_phase g.phase in (
         q.0,
         q.1,
@@ -276,7 +276,7 @@ module _ (π : Presumption) (𝓛 : Laws π) (r c all : ℕ) (st0 : Run) (sets :
           inv = inv_first π 𝓛 m ms st e g.inv;
           on = on_first π 𝓛 m ms st g.on;
           own = rw f (ap (λ (h : ℕ → Plan). (h r).coordinator) side.plan ∙ g.own);
-          side = rw f (aside_trans r st0 st _ g.side (subst (λ (x : ℕ). Aside x st (handed π m.mail m.revision m.to m.from 255 0 (with_post ms st))) (rev_of' g.phase) (record { plan = side.plan; count = side.count; cos = side.cos; subs = side.subs })));
+          side = rw f (aside_trans r st0 st _ g.side (subst (λ (x : ℕ). Aside x st (handed π m.kind m.revision m.receiver m.sender 255 0 (with_post ms st))) (rev_of' g.phase) (record { plan = side.plan; count = side.count; cos = side.cos; subs = side.subs })));
           phase = rw f q.2;
         },
       )
@@ -287,8 +287,8 @@ module _ (π : Presumption) (𝓛 : Laws π) (r c all : ℕ) (st0 : Run) (sets :
       vote_rev m q s t h = absurd h
 
       rev_of' : Voting b st ⊎ Telling b st → m.revision ≡ r
-      rev_of' (inl v) = let a : AllByRecursion VoteM (m ∷ ms) = subst (AllByRecursion VoteM) (sym e) v.posts in vote_rev m.mail m.revision m.from m.to a.0
-      rev_of' (inr v) = let a : AllByRecursion (Mild r c) (m ∷ ms) = subst (AllByRecursion (Mild r c)) (sym e) v.tri.0 in Rattle.assurance.proofs.UnderWay.rev_of π 𝓛 r c m.mail m.revision m.from m.to a.0
+      rev_of' (inl v) = let a : AllByRecursion VoteM (m ∷ ms) = subst (AllByRecursion VoteM) (sym e) v.posts in vote_rev m.kind m.revision m.sender m.receiver a.0
+      rev_of' (inr v) = let a : AllByRecursion (Mild r c) (m ∷ ms) = subst (AllByRecursion (Mild r c)) (sym e) v.tri.0 in Rattle.assurance.proofs.UnderWay.rev_of π 𝓛 r c m.kind m.revision m.sender m.receiver a.0
 
       over : Voting b st → Voting b (with_post (m ∷ ms) st)
       over v = record { ys = v.ys; entry = v.entry; some = v.some; within = v.within; busy = v.busy; posts = subst (AllByRecursion VoteM) (sym e) v.posts; cover = subst (Cover v.ys) (sym e) v.cover; few = subst (λ (p : List Message). length p + card π.size v.ys ≤ card π.size all) (sym e) v.few; left = subst (λ (p : List Message). vload p + 2 * card π.size v.ys ≤ b) (sym e) v.left }
@@ -298,25 +298,25 @@ module _ (π : Presumption) (𝓛 : Laws π) (r c all : ℕ) (st0 : Run) (sets :
       voted YES q s t v h = subst (λ (x : ℕ). Out b ms st YES x s t) (sym h.0) (subst (λ (x : ℕ). Out b ms st YES r x t) (sym h.1) (λ v. hand_yes b t ms st v g.inv.safe h.2)) v
       voted m q s t v h = absurd h
 
-      step_phase : Voting b st ⊎ Telling b st → (d : ℕ) × (suc d ≤ b) × (Voting d (handed π m.mail m.revision m.to m.from 255 0 (with_post ms st)) ⊎ Telling d (handed π m.mail m.revision m.to m.from 255 0 (with_post ms st)))
-      step_phase (inl v) = voted m.mail m.revision m.to m.from (over v) (over v).posts.0
+      step_phase : Voting b st ⊎ Telling b st → (d : ℕ) × (suc d ≤ b) × (Voting d (handed π m.kind m.revision m.receiver m.sender 255 0 (with_post ms st)) ⊎ Telling d (handed π m.kind m.revision m.receiver m.sender 255 0 (with_post ms st)))
+      step_phase (inl v) = voted m.kind m.revision m.receiver m.sender (over v) (over v).posts.0
       step_phase (inr v) =
-          let w = handed π m.mail m.revision m.to m.from 255 0 (with_post ms st) in
+          let w = handed π m.kind m.revision m.receiver m.sender 255 0 (with_post ms st) in
           let a : AllByRecursion (Mild r c) (m ∷ ms) = subst (AllByRecursion (Mild r c)) (sym e) v.tri.0 in
           let f = first_on π 𝓛 m ms st g.on in
-          let D = did_handed π m.mail m.revision m.to m.from 255 0 (with_post ms st) in
+          let D = did_handed π m.kind m.revision m.receiver m.sender 255 0 (with_post ms st) in
           let mid = mid_first π 𝓛 r c st0 m ms st e (record { inv = g.inv; on = g.on; own = g.own; side = g.side; tri = v.tri }) in
-          let lo = load_handed π 𝓛 m.mail m.revision m.to m.from 255 0 (with_post ms st) in
+          let lo = load_handed π 𝓛 m.kind m.revision m.receiver m.sender 255 0 (with_post ms st) in
           let le : load π.size (m ∷ ms) ≤ b = subst (λ (p : List Message). load π.size p ≤ b) (sym e) v.left in (
             load π.size w.post,
             omega (arith, lo, le),
             inr (record {
               tri = subst (Tri π 𝓛 r c) f mid.tri;
               heard = λ x. elim (v.heard x) [
-                | inl i ↦ inl (sure_did m.mail (mild_not m.mail m.revision m.from m.to a.0) (with_post ms st) m.revision m.to m.from w D x i)
+                | inl i ↦ inl (sure_did m.kind (mild_not m.kind m.revision m.sender m.receiver a.0) (with_post ms st) m.revision m.receiver m.sender w D x i)
                 | inr i ↦ elim (subst (In (letter COMMIT r c x)) (sym e) i) [
-                  | inl k ↦ inl (subst (λ (y : ℕ). Sure ((w.station y).subordinates r)) (ap (λ (y : Message). y.to) k) (sure_now m.mail m.revision m.to m.from (with_post ms st) (sym (ap (λ (y : Message). y.mail) k)) (ap (λ (y : Message). y.revision) k)))
-                  | inr k ↦ inr (in_did (letter COMMIT r c x) (with_post ms st) m.revision m.to m.from (λ u. For π u m.mail) w D k)
+                  | inl k ↦ inl (subst (λ (y : ℕ). Sure ((w.station y).subordinates r)) (ap (λ (y : Message). y.receiver) k) (sure_now m.kind m.revision m.receiver m.sender (with_post ms st) (sym (ap (λ (y : Message). y.kind) k)) (ap (λ (y : Message). y.revision) k)))
+                  | inr k ↦ inr (in_did (letter COMMIT r c x) (with_post ms st) m.revision m.receiver m.sender (λ u. For π u m.kind) w D k)
                 ]
               ];
               left = omega arith;

@@ -15,7 +15,7 @@ use Rattle.assurance.proofs.Local.{Along, along_take, along_all, acts_keep, step
 
 -- stations in range
 abbrev pub NearM : ℕ → Message → Type 0
-NearM n m = (m.from < n) × (m.to < n)
+NearM n m = (m.sender < n) × (m.receiver < n)
 
 pub record Near (n : ℕ) (st : Run) : Type 0 where
   pub posts : AllByRecursion (NearM n) st.post

@@ -1,15 +1,16 @@
 -- What holds of one station between steps, and the steps that messages, giving up and rejecting lead to.
-use Rattle.std.proofs.Common.{◌≡◌, ℕ, zero, suc, ◌<◌, Bool, true, false, eqb, ◌⊎◌, List, [], ◌∷◌, ◌++◌, sym, refl, ap, ◌∙◌, subst, inl, inr, arith}
+use Rattle.std.proofs.Common.{◌≡◌, ℕ, ◌<◌, Bool, true, false, eqb, ◌⊎◌, List, [], ◌∷◌, ◌++◌, sym, refl, ap, ◌∙◌, subst, inl, inr, arith, Some}
 use Rattle.std.specs.List.{AllByRecursion}
 use Rattle.std.proofs.ByRecursion.{All-weaker, All-append}
 use Rattle.std.proofs.lemmas.Bool.{or_cases, or_left, or_right, cond_both, cond-true, cond-false, cases_Bool, true≢false, eqb-true, eq-eqb, ne_eqb, and_parts}
-use Rattle.assurance.proofs.Ideal.{in_set, without_station, members, Kind, kI, kC, kA, kE, kp, kc, ka, code, Record, is, has, argument_of, Outcome, commit, abort, CoordinatorEntry, none, Open, Collecting, Announcing, SubordinateEntry, idle, Active, Prepared, Station, PREPARE, YES, NO, COMMIT, ABORT, ACK, INQUIRY, Plan, Run, Presumption, at_station, written_station, forced_station, set_coordinator, set_subordinate, marked_installed, marked_dropped, Act, write, force, send, installed, dropped, act_done, stay, to_coordinator, to_subordinate, step, line, letter, send_each, outcome_mail, outcome_kind, await, logged, end_acts, abort_acts, force_if, ack_if, enforce_acts, reject_acts, prepare_acts, upon_prepare, decide_abort, upon_no, upon_outcome, upon_ack, upon_inquiry, upon_give_up, upon_reject}
+use Rattle.assurance.proofs.Ideal.{in_set, without_station, members, Kind, kI, kC, kA, kE, kp, kc, ka, Record, is, has, argument_of, Outcome, commit, abort, CoordinatorEntry, none, Open, Collecting, Announcing, SubordinateEntry, idle, Active, Prepared, Station, PREPARE, YES, NO, COMMIT, ABORT, ACK, INQUIRY, Plan, Run, Presumption, at_station, written_station, forced_station, set_coordinator, set_subordinate, marked_installed, marked_dropped, Act, write, force, send, installed, dropped, act_done, stay, to_coordinator, to_subordinate, step, line, letter, send_each, outcome_mail, outcome_kind, await, logged, end_acts, abort_acts, force_if, ack_if, enforce_acts, reject_acts, prepare_acts, upon_prepare, decide_abort, upon_no, upon_outcome, upon_ack, upon_inquiry, upon_give_up, upon_reject}
 use Rattle.assurance.proofs.Lasting.{has_append, Got, No, Past, Inactive, Idle, Shut, Doom, Veto, Settled, World, world, Grow, head, Named, Comm, Abort, Heard, Asked, AllSettled, LegalOf, Legal, RecOf, RecLegal, CoLegal, SubLegal, known_grows, comm_grows, abort_grows, legal_grows, rec_grows}
 use Rattle.assurance.proofs.Sets.{mem_del, mem_zero, del_back}
 use Rattle.assurance.proofs.Claims.{Laws}
 use Rattle.assurance.proofs.SafeActs.{SafeSt, upd_same, here_in, keeps_refl, keeps_write, keeps_force, keeps_co, keeps_sub, grow_in, safe_co, safe_co_old, safe_sub}
 use Rattle.assurance.proofs.SafeSteps.{OkAct, Oks, safe_step, safe_step_first, in_in}
 use Rattle.assurance.proofs.Rules.{all_log, all_end, all_sends}
+use Rattle.journal.specs.Records.{letter_of, kind_of}
 
 abbrev pub Has : Kind → ℕ → Station → Type 0
 Has k r x = (has k r x.stable ≡ true) ⊎ (has k r x.loose ≡ true)
@@ -36,21 +37,16 @@ pub record TidyS (π : Presumption) (P : ℕ → Plan) (s : ℕ) (x : Station) :
   pub dropt : x.power ≡ true → (r : ℕ) → IsNone (x.coordinators r) → Got kI r x → has kC r x.stable ≡ false → (t : ℕ) → in_set (P r).names t ≡ true → π.acks abort t ≡ true → Has kE r x
   pub dark : x.power ≡ false → x.loose ≡ []
 
-abbrev decode : ℕ → Kind
-decode zero = kI
-decode (suc zero) = kC
-decode (suc (suc zero)) = kA
-decode (suc (suc (suc zero))) = kE
-decode (suc (suc (suc (suc zero)))) = kp
-decode (suc (suc (suc (suc (suc zero))))) = kc
-decode (suc (suc (suc (suc (suc (suc n)))))) = ka
+-- a kind is known by its letter
+named : (k : Kind) → kind_of (letter_of k) ≡ Some k
+named kI = refl
+named k = refl
 
-decode_code : (k : Kind) → decode (code k) ≡ k
-decode_code kI = refl
-decode_code k = refl
+same_letter : (a b : Kind) → letter_of a ≡ letter_of b → a ≡ b
+same_letter a b e = let p = named a in let q = named b in cc
 
 pub is_that : (k : Kind) (r : ℕ) (x : Record) → is k r x ≡ true → (x.kind ≡ k) × (x.revision ≡ r)
-is_that k r x h = let b = and_parts _ _ h in (sym (decode_code x.kind) ∙ (ap decode (eqb-true _ _ b.0) ∙ decode_code k), eqb-true _ _ b.1)
+is_that k r x h = let b = and_parts _ _ h in (same_letter x.kind k (eqb-true _ _ b.0), eqb-true _ _ b.1)
 
 module _ (π : Presumption) (w : World) (s : ℕ) where
   -- a record that is there is legal
@@ -85,7 +81,7 @@ module _ (π : Presumption) where
   pub ready_grows : (w v : World) → Grow w v → (s : ℕ) (a : Act) → Ready w s a → Ready v s a
   ready_grows w v g s (write x) h = (h.0, h.1, (known_grows π w v g x.revision h.2.0, rec_grows π w v g s x.kind x.revision x.argument h.2.0 h.2.1))
   ready_grows w v g s force h = tt
-  ready_grows w v g s (send m) h = (known_grows π w v g m.revision h.0, legal_grows π w v g m.mail m.revision m.from m.to h.0 h.1)
+  ready_grows w v g s (send m) h = (known_grows π w v g m.revision h.0, legal_grows π w v g m.kind m.revision m.sender m.receiver h.0 h.1)
   ready_grows w v g s (installed r) h = (known_grows π w v g r h.0, comm_grows π w v g r h.0 h.1)
   ready_grows w v g s (dropped r) h = (known_grows π w v g r h.0, abort_grows π w v g r h.0 h.1)
 

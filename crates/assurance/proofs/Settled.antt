@@ -261,7 +261,7 @@ module _ (π : Presumption) (𝓛 : Laws π) where
 
   same_first : (st0 : Run) (m : Message) (ms : List Message) (st : Run) → m ∷ ms ≡ st.post → (st.plan ≡ st0.plan) × (st.count ≡ st0.count) × On st → ((hand_first π m (with_post ms st)).plan ≡ st0.plan) × ((hand_first π m (with_post ms st)).count ≡ st0.count) × On (hand_first π m (with_post ms st))
   same_first st0 m ms st e h =
-      let a = aside_did π 𝓛 (with_post ms st) m.revision m.to m.from (λ u. For π u m.mail) _ (did_handed π m.mail m.revision m.to m.from 255 0 (with_post ms st)) in
+      let a = aside_did π 𝓛 (with_post ms st) m.revision m.receiver m.sender (λ u. For π u m.kind) _ (did_handed π m.kind m.revision m.receiver m.sender 255 0 (with_post ms st)) in
       (rw (first_on π 𝓛 m ms st h.2) (a.plan ∙ h.0), rw (first_on π 𝓛 m ms st h.2) (a.count ∙ h.1), on_first π 𝓛 m ms st h.2)
 
   -- the end of a settle

@@ -1,8 +1,8 @@
 -- What holds of one station between steps is kept by cuts, restarts and the step of every rule.
-use Rattle.std.proofs.Common.{◌≡◌, ℕ, ◌<◌, Bool, true, false, cond, not, ◌&&◌, eqb, ◌⊎◌, List, [], ◌∷◌, ◌++◌, take, sym, refl, ap, ◌∙◌, subst, inl, inr, arith}
+use Rattle.std.proofs.Common.{◌≡◌, ℕ, Bool, true, false, cond, not, ◌&&◌, eqb, ◌⊎◌, List, [], ◌∷◌, ◌++◌, take, sym, refl, ap, ◌∙◌, subst, inl, inr, arith}
 use Rattle.std.proofs.lemmas.Bool.Decides.{nat_tests}
 use Rattle.std.proofs.lemmas.Bool.{cases_Bool, cond_both, true≢false, false≢true}
-use Rattle.assurance.proofs.Ideal.{in_set, members, Kind, kI, kC, kA, kE, kp, kc, ka, code, has, argument_of, Outcome, commit, abort, CoordinatorEntry, none, Open, Collecting, Announcing, SubordinateEntry, idle, Prepared, Station, COMMIT, ABORT, PREPARE, Plan, Run, Presumption, Logging, not_at_all, unforced, forced, written_station, forced_station, cut_station, set_coordinator, set_subordinate, Act, write, force, step, outcome_mail, line, send_each, outcome_kind, await, logged, end_acts, force_if, ack_if, restarted_station}
+use Rattle.assurance.proofs.Ideal.{in_set, members, Kind, kI, kC, kA, kE, kp, kc, ka, has, argument_of, Outcome, commit, abort, CoordinatorEntry, none, Open, Collecting, Announcing, SubordinateEntry, idle, Prepared, Station, COMMIT, ABORT, PREPARE, Plan, Run, Presumption, Logging, not_at_all, unforced, forced, written_station, forced_station, cut_station, set_coordinator, set_subordinate, Act, write, force, step, outcome_mail, line, send_each, outcome_kind, await, logged, end_acts, force_if, ack_if, restarted_station}
 use Rattle.assurance.proofs.Lasting.{has_append, No, Past, Inactive, Idle, world, CoLegal}
 use Rattle.assurance.proofs.Sets.{mem_zero}
 use Rattle.assurance.proofs.Claims.{Laws}
@@ -10,6 +10,14 @@ use Rattle.assurance.proofs.Local.{locals, turned_station, locals_append, locals
 use Rattle.assurance.proofs.Rules.{Rule, vote, joins, decide, drop, enforce, confirm, less, finish, start, deny, press, acts_of, turn_of, Why, Did, by_did}
 use Rattle.assurance.proofs.SafeActs.{SafeSt, upd_same}
 use Rattle.assurance.proofs.SafeRules.{Has, IsNone, TidyS, past_await, written_got, forced_got}
+use Rattle.journal.specs.Records.{letter_of}
+
+-- the kinds whose argument is the set of the revision
+abbrev pub Carries : Kind → Type 0
+Carries kI = Unit {0}
+Carries kC = Unit {0}
+Carries kA = Unit {0}
+Carries k = ⊥
 
 module _ (π : Presumption) (P : ℕ → Plan) (s : ℕ) where
   pub tidy_cut : (k : ℕ) (y : Station) → TidyS π P s (cut_station k y)
@@ -30,7 +38,7 @@ module _ (π : Presumption) (P : ℕ → Plan) (s : ℕ) where
       }
 
   -- a record that needs no force
-  tidy_note : (x : Kind) (r a : ℕ) (y : Station) → y.power ≡ true → eqb (code x) (code kI) ≡ false → eqb (code x) (code kC) ≡ false → eqb (code x) (code kp) ≡ false → ((o : Outcome) → π.forces o s ≡ true → eqb (code x) (code (outcome_kind o)) ≡ false) → TidyS π P s y → TidyS π P s (written_station (line x r a) y)
+  tidy_note : (x : Kind) (r a : ℕ) (y : Station) → y.power ≡ true → eqb (letter_of x) (letter_of kI) ≡ false → eqb (letter_of x) (letter_of kC) ≡ false → eqb (letter_of x) (letter_of kp) ≡ false → ((o : Outcome) → π.forces o s ≡ true → eqb (letter_of x) (letter_of (outcome_kind o)) ≡ false) → TidyS π P s y → TidyS π P s (written_station (line x r a) y)
   tidy_note x r a y on xI xC xp xo h =
       record {
         fresh = λ q n. grind (arith, nat_tests, has_append, h.fresh q);
@@ -44,7 +52,7 @@ module _ (π : Presumption) (P : ℕ → Plan) (s : ℕ) where
       }
 
   -- a record that is forced at once
-  tidy_put : (x : Kind) (r a : ℕ) (y : Station) → eqb (code x) (code kC) ≡ false → (eqb (code x) (code kp) ≡ true → Inactive (y.subordinates r) × (Idle (y.subordinates r) → ⊥)) → (eqb (code x) (code kI) ≡ true → IsNone (y.coordinators r) → ⊥) → TidyS π P s y → TidyS π P s (forced_station (written_station (line x r a) y))
+  tidy_put : (x : Kind) (r a : ℕ) (y : Station) → eqb (letter_of x) (letter_of kC) ≡ false → (eqb (letter_of x) (letter_of kp) ≡ true → Inactive (y.subordinates r) × (Idle (y.subordinates r) → ⊥)) → (eqb (letter_of x) (letter_of kI) ≡ true → IsNone (y.coordinators r) → ⊥) → TidyS π P s y → TidyS π P s (forced_station (written_station (line x r a) y))
   tidy_put x r a y xC xp xI h =
       record {
         fresh = λ q n. grind (arith, nat_tests, has_append, h.fresh q);
@@ -106,7 +114,7 @@ module _ (π : Presumption) (P : ℕ → Plan) (s : ℕ) where
   ends : (o : Outcome) (a t : ℕ) → Laws π → in_set (π.ackers o a) t ≡ true → (q : ℕ) (y : Station) → IsNone (cond (has kE q y.stable) none (await o (π.ackers o a))) → Has kE q y
   ends o a t 𝓛 m q y n = grind (arith, nat_tests, mem_zero t)
 
-  pub tidy_restart : (𝓛 : Laws π) (y : Station) → TidyS π P s y → y.power ≡ false → ((k : Kind) (q : ℕ) → (code k < 3) → has k q y.stable ≡ true → argument_of k q y.stable ≡ (P q).names) → TidyS π P s (restarted_station π y)
+  pub tidy_restart : (𝓛 : Laws π) (y : Station) → TidyS π P s y → y.power ≡ false → ((k : Kind) (q : ℕ) → Carries k → has k q y.stable ≡ true → argument_of k q y.stable ≡ (P q).names) → TidyS π P s (restarted_station π y)
   tidy_restart 𝓛 y h off args =
       let bare = h.dark off in
       record {
@@ -115,8 +123,8 @@ module _ (π : Presumption) (P : ℕ → Plan) (s : ℕ) where
         calm = λ q. grind (arith, nat_tests);
         paid = λ o q f. rw bare refl;
         knows = λ p q i g. grind (arith, nat_tests);
-        ended = λ p q i g t m k. (let a = args kC q (omega arith) g in let b = 𝓛.acker commit (P q).names t m k in let z = mem_zero t in ends commit (argument_of kC q y.stable) t 𝓛 (rw a b) q y (grind (arith, nat_tests)));
-        dropt = λ p q i g z t m k. (elim (cases_Bool (has kA q y.stable)) [ inl hA ↦ ends abort (argument_of kA q y.stable) t 𝓛 (rw (args kA q (omega arith) hA) (𝓛.acker abort (P q).names t m k)) q y (grind (arith, nat_tests)) | inr hA ↦ ends abort (argument_of kI q y.stable) t 𝓛 (rw (args kI q (omega arith) g) (𝓛.acker abort (P q).names t m k)) q y (grind (arith, nat_tests)) ]);
+        ended = λ p q i g t m k. (let a = args kC q tt g in let b = 𝓛.acker commit (P q).names t m k in let z = mem_zero t in ends commit (argument_of kC q y.stable) t 𝓛 (rw a b) q y (grind (arith, nat_tests)));
+        dropt = λ p q i g z t m k. (elim (cases_Bool (has kA q y.stable)) [ inl hA ↦ ends abort (argument_of kA q y.stable) t 𝓛 (rw (args kA q tt hA) (𝓛.acker abort (P q).names t m k)) q y (grind (arith, nat_tests)) | inr hA ↦ ends abort (argument_of kI q y.stable) t 𝓛 (rw (args kI q tt g) (𝓛.acker abort (P q).names t m k)) q y (grind (arith, nat_tests)) ]);
         dark = λ p. grind arith;
       }
 

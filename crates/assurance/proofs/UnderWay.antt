@@ -112,7 +112,7 @@ MildOf r c ACK q s t = (q ≡ r) × (t ≡ c)
 MildOf r c m q s t = ⊥
 
 abbrev pub Mild : ℕ → ℕ → Message → Type 0
-Mild r c m = MildOf r c m.mail m.revision m.from m.to
+Mild r c m = MildOf r c m.kind m.revision m.sender m.receiver
 
 mild_outcome : (o : Outcome) (r c u : ℕ) → MildOf r c (outcome_mail o) r c u
 mild_outcome commit r c u = (refl, refl)
@@ -208,8 +208,8 @@ module _ (π : Presumption) (𝓛 : Laws π) where
           other : (u : ℕ) → in_set w u ≡ true → (t ≡ u → ⊥) → In (letter (outcome_mail o) r c u) ms ⊎ In (letter ACK r u c) ms
           other u m n =
               elim (p u m) [
-                | inl i ↦ elim i [ inl q ↦ absurd (not_ack o (sym (ap (λ (x : Message). x.mail) q))) | inr q ↦ inl q ]
-                | inr i ↦ elim i [ inl q ↦ absurd (n (ap (λ (x : Message). x.from) q)) | inr q ↦ inr q ]
+                | inl i ↦ elim i [ inl q ↦ absurd (not_ack o (sym (ap (λ (x : Message). x.kind) q))) | inr q ↦ inl q ]
+                | inr i ↦ elim i [ inl q ↦ absurd (n (ap (λ (x : Message). x.sender) q)) | inr q ↦ inr q ]
               ]
       core_ack t v e p = (mild, omega arith, subst (λ (x : CoordinatorEntry). CoPend r c x ms) (sym e) tt)
 
@@ -243,8 +243,8 @@ module _ (π : Presumption) (𝓛 : Laws π) where
           pend_ann : (o' : Outcome) (w : ℕ) → (st.station c).coordinators r ≡ Announcing o' w → Pend w o' r c (letter (outcome_mail o) r c s ∷ ms) → Pend w o' r c v.post
           pend_ann o' w e p u m =
               elim (p u m) [
-                | inl i ↦ elim i [ inl q ↦ inr (acked (ap (λ (x : Message). x.to) q) (same_outcome o o' (ap (λ (x : Message). x.mail) q))) | inr q ↦ inl (kept (letter (outcome_mail o') r c u) q) ]
-                | inr i ↦ elim i [ inl q ↦ absurd (not_ack o (ap (λ (x : Message). x.mail) q)) | inr q ↦ inr (kept (letter ACK r u c) q) ]
+                | inl i ↦ elim i [ inl q ↦ inr (acked (ap (λ (x : Message). x.receiver) q) (same_outcome o o' (ap (λ (x : Message). x.kind) q))) | inr q ↦ inl (kept (letter (outcome_mail o') r c u) q) ]
+                | inr i ↦ elim i [ inl q ↦ absurd (not_ack o (ap (λ (x : Message). x.kind) q)) | inr q ↦ inr (kept (letter ACK r u c) q) ]
               ]
             where
               kept : (x : Message) → In x ms → In x v.post
@@ -293,13 +293,13 @@ module _ (π : Presumption) (𝓛 : Laws π) where
     pub mid_first : (st0 : Run) (m : Message) (ms : List Message) (st : Run) → m ∷ ms ≡ st.post → Mid st0 st → Mid st0 (hand_first π m (with_post ms st))
     mid_first st0 m ms st e h =
         let a : Tri (with_post (m ∷ ms) st) = subst (λ (p : List Message). AllByRecursion (Mild r c) p × (length p ≤ π.size) × CoPend r c ((st.station c).coordinators r) p) (sym e) h.tri in
-        let side : Aside r st (handed π m.mail m.revision m.to m.from 255 0 (with_post ms st)) = aside_post ms st _ (subst (λ (x : ℕ). Aside x (with_post ms st) (handed π m.mail m.revision m.to m.from 255 0 (with_post ms st))) (rev_of m.mail m.revision m.from m.to a.0.0) (aside_did π 𝓛 (with_post ms st) m.revision m.to m.from (λ u. For π u m.mail) _ (did_handed π m.mail m.revision m.to m.from 255 0 (with_post ms st)))) in
+        let side : Aside r st (handed π m.kind m.revision m.receiver m.sender 255 0 (with_post ms st)) = aside_post ms st _ (subst (λ (x : ℕ). Aside x (with_post ms st) (handed π m.kind m.revision m.receiver m.sender 255 0 (with_post ms st))) (rev_of m.kind m.revision m.sender m.receiver a.0.0) (aside_did π 𝓛 (with_post ms st) m.revision m.receiver m.sender (λ u. For π u m.kind) _ (did_handed π m.kind m.revision m.receiver m.sender 255 0 (with_post ms st)))) in
         record {
           inv = inv_first π 𝓛 m ms st e h.inv;
           on = on_first π 𝓛 m ms st h.on;
           own = rw (first_on π 𝓛 m ms st h.on) (ap (λ (f : ℕ → Plan). (f r).coordinator) side.plan ∙ h.own);
           side = rw (first_on π 𝓛 m ms st h.on) (aside_trans r st0 st _ h.side side);
-          tri = rw (first_on π 𝓛 m ms st h.on) (core ms st h.inv.safe h.inv.tidy h.own a.0.1 (omega (arith, a.1)) m.mail m.revision m.to m.from a.0.0 a.2);
+          tri = rw (first_on π 𝓛 m ms st h.on) (core ms st h.inv.safe h.inv.tidy h.own a.0.1 (omega (arith, a.1)) m.kind m.revision m.receiver m.sender a.0.0 a.2);
         }
 
     -- when nothing waits nobody is awaited

@@ -111,8 +111,8 @@ module _ (π : Presumption) (𝓛 : Laws π) where
   aside_did st r s t P v d = by_did π (Aside r st) st r s t 255 0 P v d (aside_refl r st) (λ u w _. subst (Aside r st) (sym (whole π 𝓛 u r s t st)) (aside_moved s (acts_of π u r s t) (turn_of π u r) st r (about_rule u r)))
 
   pub on_first : (m : Message) (ms : List Message) (st : Run) → On st → On (hand_first π m (with_post ms st))
-  on_first m ms st h = cond_both (st.station m.to).power (handed π m.mail m.revision m.to m.from 255 0 (with_post ms st)) (with_post ms st) On (λ _. on_did (with_post ms st) m.revision m.to m.from (λ u. For π u m.mail) _ (did_handed π m.mail m.revision m.to m.from 255 0 (with_post ms st)) h) (λ _. h)
+  on_first m ms st h = cond_both (st.station m.receiver).power (handed π m.kind m.revision m.receiver m.sender 255 0 (with_post ms st)) (with_post ms st) On (λ _. on_did (with_post ms st) m.revision m.receiver m.sender (λ u. For π u m.kind) _ (did_handed π m.kind m.revision m.receiver m.sender 255 0 (with_post ms st)) h) (λ _. h)
 
   -- with power everywhere the first message is handed over
-  pub first_on : (m : Message) (ms : List Message) (st : Run) → On st → hand_first π m (with_post ms st) ≡ handed π m.mail m.revision m.to m.from 255 0 (with_post ms st)
-  first_on m ms st h = cond-true (st.station m.to).power _ _ (h m.to)
+  pub first_on : (m : Message) (ms : List Message) (st : Run) → On st → hand_first π m (with_post ms st) ≡ handed π m.kind m.revision m.receiver m.sender 255 0 (with_post ms st)
+  first_on m ms st h = cond-true (st.station m.receiver).power _ _ (h m.receiver)

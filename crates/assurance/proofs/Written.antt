@@ -1,5 +1,5 @@
 -- No write of a step that a call asks for is refused.
-use Rattle.std.proofs.Common.{◌≡◌, ℕ, zero, suc, ◌<◌, ◌≤◌, List, [], ◌∷◌, map, length, Some, None, Option, refl, subst}
+use Rattle.std.proofs.Common.{◌≡◌, ℕ, zero, suc, ◌<◌, ◌≤◌, List, [], ◌∷◌, length, Some, None, Option, refl, subst}
 use Rattle.std.specs.List.{AllByRecursion, slice_get}
 use Rattle.std.specs.Option.{option_map}
 use Rattle.presumption.specs.Answers.{Answers, Lawful}
@@ -22,7 +22,7 @@ use Rattle.assurance.proofs.Ideal as ideal
 use Rattle.assurance.proofs.Lasting.{world, Legal}
 use Rattle.assurance.proofs.Ranges.{NearM}
 use Rattle.assurance.proofs.SafeRules.{has_legal}
-use Rattle.assurance.proofs.View.{message_as, view}
+use Rattle.assurance.proofs.View.{view}
 use Rattle.assurance.proofs.Moves.{presumes, Good}
 use Rattle.assurance.proofs.Heard.{co_legal, sub_legal, heard_view, closes, gives_up_open, gives_up, chases, rejects, inquires}
 
@@ -77,7 +77,7 @@ module _ (π : Answers) (𝓗 : Lawful π) (n : ℕ) (two : 2 ≤ n) (eight : n 
   heard_done : (m : Message) → m.receiver < n → m.sender < n → m.revision < length st.store.log → Done (Some (due_to π st m))
   heard_done m a b c = (heard_view π 𝓗 n two eight st g m.revision m.receiver m.sender 0 0 a c m.kind b).1
 
-  post_done : (p : List Message) (i : ℕ) → AllByRecursion (NearM n) (map message_as p) → AllByRecursion (Legal Q (world V)) (map message_as p) → Done (option_map (due_to π st) (slice_get p i))
+  post_done : (p : List Message) (i : ℕ) → AllByRecursion (NearM n) p → AllByRecursion (Legal Q (world V)) p → Done (option_map (due_to π st) (slice_get p i))
   post_done [] i a b = tt
   post_done (m ∷ p) zero a b = heard_done m a.0.1 a.0.0 b.0.0
   post_done (m ∷ p) (suc i) a b = post_done p i a.1 b.1
