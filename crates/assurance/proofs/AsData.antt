@@ -12,19 +12,19 @@ use Rattle.run.specs.Settling.{settled, long_fuse}
 use Rattle.run.specs.State.{State, fits, fresh}
 use Rattle.assurance.proofs.Holds.{one_outcome}
 use Rattle.assurance.specs.Outcomes.{Sound, Dropped, Lacks}
-use Rattle.assurance.specs.Lists.{called, after_calls}
+use Rattle.assurance.specs.Lists.{fuse, called, after_calls}
 use Rattle.assurance.specs.declared.calls.Call.{Call}
 use Rattle.assurance.specs.declared.calls.Call.TheVariants.{Open, Close, GiveUp, Chase, Reject, Inquire, Deliver, Lose, Cut, Restart, Settle}
 
 -- The value of a call as listed.
 pub value_of : listed.Call → Call
 value_of (listed.Open c set) = Open c set
-value_of (listed.Close r f k) = Close r f k
-value_of (listed.GiveUp r f k) = GiveUp r f k
-value_of (listed.Chase r f k) = Chase r f k
-value_of (listed.Reject r s f k) = Reject r s f k
-value_of (listed.Inquire r s f k) = Inquire r s f k
-value_of (listed.Deliver i copy f k) = Deliver i copy f k
+value_of (listed.Close r f k) = Close r (fuse f k)
+value_of (listed.GiveUp r f k) = GiveUp r (fuse f k)
+value_of (listed.Chase r f k) = Chase r (fuse f k)
+value_of (listed.Reject r s f k) = Reject r s (fuse f k)
+value_of (listed.Inquire r s f k) = Inquire r s (fuse f k)
+value_of (listed.Deliver i copy f k) = Deliver i copy (fuse f k)
 value_of (listed.Lose i) = Lose i
 value_of (listed.Cut s k) = Cut s k
 value_of (listed.Restart s) = Restart s

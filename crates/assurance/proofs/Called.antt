@@ -1,10 +1,9 @@
 -- Each call does to the view what the ideal run's call does.
-use Rattle.std.proofs.Common.{◌≡◌, ℕ, zero, suc, ◌+◌, ◌<◌, ◌≤◌, Bool, true, false, cond, not, ◌&&◌, ◌||◌, ltb, List, [], ◌∷◌, ◌++◌, map, length, get_or, take, drop, Some, None, Option, sym, refl, ap, ◌∙◌, subst, inl, inr, arith}
+use Rattle.std.proofs.Common.{◌≡◌, ℕ, ◌+◌, ◌<◌, ◌≤◌, Bool, true, false, cond, not, ◌&&◌, ◌||◌, ltb, List, [], ◌∷◌, length, get_or, Some, None, Option, sym, refl, ap, ◌∙◌, subst, inl, inr, arith, take_all}
 use mathlib.Core.Path.{fun_ext}
 use lib.Count.{ones}
-use lib.ListN.{length-map}
-use Rattle.std.proofs.lemmas.Bool.{cond-true, cond-false, cases_Bool, cases_lt, true≢false}
-use Rattle.std.proofs.lemmas.List.{get_or_past, get_or-map}
+use Rattle.std.proofs.lemmas.Bool.{cond-true, cond-false, cases_Bool, cases_lt, true≢false, lt-ltb, ltb-true, ltb-false}
+use Rattle.std.proofs.lemmas.List.{get_or_past, drop_all, append-nil}
 use Rattle.journal.specs.Meaning.{section}
 use Rattle.journal.specs.declared.records.Kind.{Kind}
 use Rattle.journal.specs.declared.records.Kind.TheVariants as kind
@@ -28,7 +27,7 @@ use Rattle.assurance.proofs.Ideal as ideal
 use Rattle.station.specs.Acts.{letter}
 use Rattle.station.specs.Coordinator.{announcing, close_move, give_up_move, chase_move, unheard}
 use Rattle.assurance.proofs.Every.{Full}
-use Rattle.assurance.proofs.View.{lt_true, true_lt, false_lt, kind_as, outcome_as, mail_as, record_as, message_as, co_as, sub_as, station_as, view}
+use Rattle.assurance.proofs.View.{co_as, station_as, view}
 use Rattle.std.proofs.ByRecursion.{All-get_or}
 use Rattle.std.proofs.lemmas.List.FromFn.{length-map-range_with_len, get_or-map-range_with_len}
 use Rattle.run.specs.Answers.{answered}
@@ -38,63 +37,49 @@ use Rattle.station.specs.Moves.{Move}
 use Rattle.station.specs.Recovery.{resumed_coordinator, resumed_subordinate, doubt, told_by, decision, announced}
 use Rattle.station.specs.Subordinate.{reject_move, inquire_move}
 use Rattle.std.specs.Option.{option_map}
-use Rattle.actor.specs.Post.{without}
-use Rattle.assurance.proofs.Lasting.{world, RecOf}
+use Rattle.assurance.proofs.Lasting.{world}
 use Rattle.assurance.proofs.Every.{full_call}
 use Rattle.assurance.proofs.SafeRules.{has_legal}
 use Rattle.assurance.proofs.Moves.{presumes, laws, Good, Becomes}
 use Rattle.assurance.proofs.Performed.{cut_view, shape_cut, in_stations, shape_station}
 use Rattle.assurance.proofs.Heard.{co_legal, sub_legal, await_all, heard_view, closes, gives_up_open, gives_up, chases, rejects, inquires}
-use Rattle.assurance.proofs.View.{has_as, is_as}
-
--- a message removed
-without_as_list : (i : ℕ) (p : List Message) → map message_as (without i p) ≡ ideal.drop_at i (map message_as p)
-without_as_list zero [] = refl
-without_as_list zero (x ∷ p) = refl
-without_as_list (suc i) [] = ap (λ (k : ℕ). map message_as (drop {A = Message} k [])) (more i)
-  where
-    more : (i : ℕ) → suc i + 1 ≡ suc (i + 1)
-    more i = omega arith
-without_as_list (suc i) (x ∷ p) = ap (λ (q : List Message). map message_as (x ∷ (take i p ++ q))) (ap (λ (k : ℕ). drop k (x ∷ p)) (more i)) ∙ ap (λ (l : List ideal.Message). message_as x ∷ l) (without_as_list i p)
-  where
-    more : (i : ℕ) → suc i + 1 ≡ suc (i + 1)
-    more i = omega arith
+use Rattle.assurance.proofs.View.{has_as}
+use Rattle.assurance.proofs.Tidy.{Carries}
+use Rattle.assurance.proofs.Invariant.{args_of}
 
 past : {X : Type 0} (i : ℕ) (l : List X) → length l ≤ i → ideal.drop_at i l ≡ l
-past i [] h = refl
-past zero (x ∷ l) h = absurd (omega arith)
-past (suc i) (x ∷ l) h = ap (λ m. x ∷ m) (past i l (omega arith))
+past i l h = rw (take_all i l h, drop_all (i + 1) l (omega arith)) (append-nil l)
 
 -- a message handed to its receiver
 module _ (π : Answers) (𝓗 : Lawful π) (n : ℕ) (two : 2 ≤ n) (eight : n ≤ 8) where
   pub handed_view : (u : State) → Good π 𝓗 n two eight u → (m : Message) → m.receiver < n → m.sender < n → m.revision < length u.store.log → (f k : ℕ)
-      → Becomes π 𝓗 n two eight (handed π m f k u).state (cond ((view n u).station m.receiver).power (ideal.handed (presumes π n) (mail_as m.kind) m.revision m.receiver m.sender f k (view n u)) (view n u))
+      → Becomes π 𝓗 n two eight (handed π m f k u).state (cond ((view n u).station m.receiver).power (ideal.handed (presumes π n) m.kind m.revision m.receiver m.sender f k (view n u)) (view n u))
   handed_view u gu m a b c f k = go (power_at u.stations m.receiver)
     where
       here : ltb m.receiver n ≡ true
-      here = lt_true _ n a
+      here = lt-ltb _ n a
 
       go : (p : Bool) → Becomes π 𝓗 n two eight (cond p (moved π m.receiver m.revision (heard π u.stations m) f k u) (reply (answered 0) u)).state
-          (cond (cond (ltb m.receiver n) p true) (ideal.handed (presumes π n) (mail_as m.kind) m.revision m.receiver m.sender f k (view n u)) (view n u))
+          (cond (cond (ltb m.receiver n) p true) (ideal.handed (presumes π n) m.kind m.revision m.receiver m.sender f k (view n u)) (view n u))
       go true =
           let q = (heard_view π 𝓗 n two eight u gu m.revision m.receiver m.sender f k a c m.kind b).0 in
-          (q.0 ∙ sym (ap (λ (d : Bool). cond (cond d true true) (ideal.handed (presumes π n) (mail_as m.kind) m.revision m.receiver m.sender f k (view n u)) (view n u)) here), q.1)
-      go false = (sym (ap (λ (d : Bool). cond (cond d false true) (ideal.handed (presumes π n) (mail_as m.kind) m.revision m.receiver m.sender f k (view n u)) (view n u)) here), gu.shape)
+          (q.0 ∙ sym (ap (λ (d : Bool). cond (cond d true true) (ideal.handed (presumes π n) m.kind m.revision m.receiver m.sender f k (view n u)) (view n u)) here), q.1)
+      go false = (sym (ap (λ (d : Bool). cond (cond d false true) (ideal.handed (presumes π n) m.kind m.revision m.receiver m.sender f k (view n u)) (view n u)) here), gu.shape)
 
 -- the first record of a kind, and what the ideal run makes of it
 abbrev Finds : Kind → ℕ → List Record → Option Record → Type 0
-Finds k r l None = ideal.has (kind_as k) r (map record_as l) ≡ false
-Finds k r l (Some x) = (ideal.has (kind_as k) r (map record_as l) ≡ true) × (ideal.argument_of (kind_as k) r (map record_as l) ≡ x.argument)
+Finds k r l None = ideal.has k r l ≡ false
+Finds k r l (Some x) = (ideal.has k r l ≡ true) × (ideal.argument_of k r l ≡ x.argument)
 
 finds : (k : Kind) (r : ℕ) (l : List Record) → Finds k r l (first_record k r l)
 unfolding first_record
 finds k r [] = refl
-finds k r (x ∷ l) = subst (λ (b : Bool). Finds k r (x ∷ l) (cond b (Some x) (first_record k r l))) (is_as k r x) (go (ideal.is (kind_as k) r (record_as x)) refl (first_record k r l) (finds k r l))
+finds k r (x ∷ l) = go (ideal.is k r x) refl (first_record k r l) (finds k r l)
   where
-    go : (b : Bool) → ideal.is (kind_as k) r (record_as x) ≡ b → (o : Option Record) → Finds k r l o → Finds k r (x ∷ l) (cond b (Some x) o)
-    go true e o h = (ap (λ (c : Bool). c || ideal.has (kind_as k) r (map record_as l)) e, cond-true (ideal.is (kind_as k) r (record_as x)) x.argument (ideal.argument_of (kind_as k) r (map record_as l)) e)
-    go false e None h = ap (λ (c : Bool). c || ideal.has (kind_as k) r (map record_as l)) e ∙ h
-    go false e (Some y) h = (ap (λ (c : Bool). c || ideal.has (kind_as k) r (map record_as l)) e ∙ h.0, cond-false (ideal.is (kind_as k) r (record_as x)) x.argument (ideal.argument_of (kind_as k) r (map record_as l)) e ∙ h.1)
+    go : (b : Bool) → ideal.is k r x ≡ b → (o : Option Record) → Finds k r l o → Finds k r (x ∷ l) (cond b (Some x) o)
+    go true e o h = (ap (λ (c : Bool). c || ideal.has k r l) e, cond-true (ideal.is k r x) x.argument (ideal.argument_of k r l) e)
+    go false e None h = ap (λ (c : Bool). c || ideal.has k r l) e ∙ h
+    go false e (Some y) h = (ap (λ (c : Bool). c || ideal.has k r l) e ∙ h.0, cond-false (ideal.is k r x) x.argument (ideal.argument_of k r l) e ∙ h.1)
 
 module _ (π : Answers) (𝓗 : Lawful π) (n : ℕ) (two : 2 ≤ n) (eight : n ≤ 8) (st : State) (g : Good π 𝓗 n two eight st) where
   abbrev V : ideal.Run
@@ -128,8 +113,7 @@ module _ (π : Answers) (𝓗 : Lawful π) (n : ℕ) (two : 2 ≤ n) (eight : n 
     where
       go : (e : SubordinateEntry) → subordinate_at st.stations s r ≡ e → e ≡ subordinate.None
       go subordinate.None q = refl
-      go (subordinate.Active c) q = absurd (omega (arith, (sub_legal π 𝓗 n two eight st g s r (subordinate.Active c) q).0))
-      go (subordinate.Prepared c) q = absurd (omega (arith, (sub_legal π 𝓗 n two eight st g s r (subordinate.Prepared c) q).0))
+      go e q = absurd (omega (arith, (sub_legal π 𝓗 n two eight st g s r e q).0))
 
   -- a call that the coordinator carries out
   by_coordinator : (r f k : ℕ) (m : Option (Move CoordinatorEntry)) (w : ideal.Run)
@@ -142,18 +126,18 @@ module _ (π : Answers) (𝓗 : Lawful π) (n : ℕ) (two : 2 ≤ n) (eight : n 
       s = coordinator_of r st
 
       here : ltb (coordinator_of r st) n ≡ true
-      here = lt_true _ n (g.full.near.plans r)
+      here = lt-ltb _ n (g.full.near.plans r)
 
       go : (a b c : Bool) → a ≡ true → ltb r (length st.store.log) ≡ b
           → To (cond a (cond b (cond c (if_allowed π (coordinator_of r st) r (option_map (turning turn.Coordinator) m) f k st) (refuse 4 st)) (refuse 3 st)) (refuse 1 st)).state (cond (cond (ltb (coordinator_of r st) n) c true) w V)
       go false b c e q = absurd (true≢false (sym e))
-      go true false c e q = unchanged _ (same (cond (ltb (coordinator_of r st) n) c true) (not_so (false_lt _ _ q)))
+      go true false c e q = unchanged _ (same (cond (ltb (coordinator_of r st) n) c true) (not_so (ltb-false _ _ q)))
         where
           same : (d : Bool) → w ≡ V → cond d w V ≡ V
           same true z = z
           same false z = refl
       go true true false e q = unchanged _ (ap (λ (d : Bool). cond (cond d false true) w V) here)
-      go true true true e q = moved_to _ w _ (yes_so (true_lt _ _ q)) (sym (ap (λ (d : Bool). cond (cond d true true) w V) here))
+      go true true true e q = moved_to _ w _ (yes_so (ltb-true _ _ q)) (sym (ap (λ (d : Bool). cond (cond d true true) w V) here))
 
   pub close_view : (r f k : ℕ) → To (close_call π r f k st).state (ideal.call Q (ideal.close r f k) V)
   close_view r f k =
@@ -162,10 +146,8 @@ module _ (π : Answers) (𝓗 : Lawful π) (n : ℕ) (two : 2 ≤ n) (eight : n 
       (λ l. ap (λ (e : CoordinatorEntry). ideal.upon_close Q r (coordinator_of r st) (co_as e) f k V) (no_co (coordinator_of r st) r l))
     where
       go : r < length st.store.log → (e : CoordinatorEntry) → coordinator_entry r st ≡ e → To (if_allowed π (coordinator_of r st) r (option_map (turning turn.Coordinator) (close_move e)) f k st).state (ideal.upon_close Q r (coordinator_of r st) (co_as e) f k V)
-      go l coordinator.None q = unchanged V refl
       go l (coordinator.Open x) q = (closes π 𝓗 n two eight st g r (coordinator_of r st) f k (g.full.near.plans r) l x q).0
-      go l (coordinator.Collecting x y) q = unchanged V refl
-      go l (coordinator.Announcing o w) q = unchanged V refl
+      go l e q = unchanged V refl
 
   pub give_up_view : (r f k : ℕ) → To (give_up_call π r f k st).state (ideal.call Q (ideal.give_up r f k) V)
   give_up_view r f k =
@@ -174,10 +156,9 @@ module _ (π : Answers) (𝓗 : Lawful π) (n : ℕ) (two : 2 ≤ n) (eight : n 
       (λ l. ap (λ (e : CoordinatorEntry). ideal.upon_give_up Q r (coordinator_of r st) (co_as e) f k V) (no_co (coordinator_of r st) r l))
     where
       go : r < length st.store.log → (e : CoordinatorEntry) → coordinator_entry r st ≡ e → To (if_allowed π (coordinator_of r st) r (option_map (turning turn.Coordinator) (give_up_move π e)) f k st).state (ideal.upon_give_up Q r (coordinator_of r st) (co_as e) f k V)
-      go l coordinator.None q = unchanged V refl
       go l (coordinator.Open x) q = (gives_up_open π 𝓗 n two eight st g r (coordinator_of r st) f k (g.full.near.plans r) l x q).0
       go l (coordinator.Collecting x y) q = (gives_up π 𝓗 n two eight st g r (coordinator_of r st) f k (g.full.near.plans r) l x y q).0
-      go l (coordinator.Announcing o w) q = unchanged V refl
+      go l e q = unchanged V refl
 
   pub chase_view : (r f k : ℕ) → To (chase_call π r f k st).state (ideal.call Q (ideal.chase r f k) V)
   chase_view r f k =
@@ -186,10 +167,8 @@ module _ (π : Answers) (𝓗 : Lawful π) (n : ℕ) (two : 2 ≤ n) (eight : n 
       (λ l. ap (λ (e : CoordinatorEntry). ideal.upon_chase Q r (coordinator_of r st) (co_as e) f k V) (no_co (coordinator_of r st) r l))
     where
       go : r < length st.store.log → (e : CoordinatorEntry) → coordinator_entry r st ≡ e → To (if_allowed π (coordinator_of r st) r (option_map (turning turn.Coordinator) (chase_move e)) f k st).state (ideal.upon_chase Q r (coordinator_of r st) (co_as e) f k V)
-      go l coordinator.None q = unchanged V refl
-      go l (coordinator.Open x) q = unchanged V refl
-      go l (coordinator.Collecting x y) q = unchanged V refl
       go l (coordinator.Announcing o w) q = (chases π 𝓗 n two eight st g r (coordinator_of r st) f k (g.full.near.plans r) l o w q).0
+      go l e q = unchanged V refl
 
   -- a call that a subordinate carries out
   by_subordinate : (r s f k : ℕ) (m : Option (Move SubordinateEntry)) (w : ideal.Run)
@@ -204,37 +183,35 @@ module _ (π : Answers) (𝓗 : Lawful π) (n : ℕ) (two : 2 ≤ n) (eight : n 
           → To (cond a (cond b (cond c (cond d (if_allowed π s r (option_map (turning turn.Subordinate) m) f k st) (refuse 4 st)) (refuse 3 st)) (refuse 2 st)) (refuse 1 st)).state (cond (b && cond b d true) w V)
       go false b c d e p q = absurd (true≢false (sym e))
       go true false c d e p q = unchanged _ refl
-      go true true false true e p q = unchanged _ (not_so (false_lt _ _ q))
+      go true true false true e p q = unchanged _ (not_so (ltb-false _ _ q))
       go true true false false e p q = unchanged _ refl
       go true true true false e p q = unchanged _ refl
-      go true true true true e p q = yes_so (true_lt _ _ p) (true_lt _ _ q)
+      go true true true true e p q = yes_so (ltb-true _ _ p) (ltb-true _ _ q)
 
   pub reject_view : (r s f k : ℕ) → To (reject_call π r s f k st).state (ideal.call Q (ideal.reject r s f k) V)
   reject_view r s f k =
       by_subordinate r s f k (reject_move (subordinate_at st.stations s r)) (ideal.upon_reject Q r s ((V.station s).subordinates r) f k V)
       (λ h l. go h l (subordinate_at st.stations s r) refl)
-      (λ l. ap (λ (e : SubordinateEntry). ideal.upon_reject Q r s (sub_as e) f k V) (no_sub s r l))
+      (λ l. ap (λ (e : SubordinateEntry). ideal.upon_reject Q r s e f k V) (no_sub s r l))
     where
-      go : s < n → r < length st.store.log → (e : SubordinateEntry) → subordinate_at st.stations s r ≡ e → To (if_allowed π s r (option_map (turning turn.Subordinate) (reject_move e)) f k st).state (ideal.upon_reject Q r s (sub_as e) f k V)
-      go h l subordinate.None q = unchanged V refl
+      go : s < n → r < length st.store.log → (e : SubordinateEntry) → subordinate_at st.stations s r ≡ e → To (if_allowed π s r (option_map (turning turn.Subordinate) (reject_move e)) f k st).state (ideal.upon_reject Q r s e f k V)
       go h l (subordinate.Active c) q = (rejects π 𝓗 n two eight st g r s f k h l c q).0
-      go h l (subordinate.Prepared c) q = unchanged V refl
+      go h l e q = unchanged V refl
 
   pub inquire_view : (r s f k : ℕ) → To (inquire_call π r s f k st).state (ideal.call Q (ideal.inquire r s f k) V)
   inquire_view r s f k =
       by_subordinate r s f k (inquire_move (subordinate_at st.stations s r)) (ideal.upon_inquire Q r s ((V.station s).subordinates r) f k V)
       (λ h l. go h l (subordinate_at st.stations s r) refl)
-      (λ l. ap (λ (e : SubordinateEntry). ideal.upon_inquire Q r s (sub_as e) f k V) (no_sub s r l))
+      (λ l. ap (λ (e : SubordinateEntry). ideal.upon_inquire Q r s e f k V) (no_sub s r l))
     where
-      go : s < n → r < length st.store.log → (e : SubordinateEntry) → subordinate_at st.stations s r ≡ e → To (if_allowed π s r (option_map (turning turn.Subordinate) (inquire_move e)) f k st).state (ideal.upon_inquire Q r s (sub_as e) f k V)
-      go h l subordinate.None q = unchanged V refl
-      go h l (subordinate.Active c) q = unchanged V refl
+      go : s < n → r < length st.store.log → (e : SubordinateEntry) → subordinate_at st.stations s r ≡ e → To (if_allowed π s r (option_map (turning turn.Subordinate) (inquire_move e)) f k st).state (ideal.upon_inquire Q r s e f k V)
       go h l (subordinate.Prepared c) q = (inquires π 𝓗 n two eight st g r s f k h l c q).0
+      go h l e q = unchanged V refl
 
   -- deliveries and losses
   left_view : (i : ℕ) (copy : Bool) → view n (cond copy st (removed i st)) ≡ ideal.with_post (cond copy V.post (ideal.drop_at i V.post)) V
   left_view i true = refl
-  left_view i false = ap (λ (l : List ideal.Message). ideal.with_post l V) (without_as_list i st.store.post)
+  left_view i false = refl
 
   left_good : (i : ℕ) (copy : Bool) → Good π 𝓗 n two eight (cond copy st (removed i st))
   left_good i true = g
@@ -249,42 +226,33 @@ module _ (π : Answers) (𝓗 : Lawful π) (n : ℕ) (two : 2 ≤ n) (eight : n 
   left_log i false = refl
 
   abbrev Passes : ℕ → ℕ → ideal.Message → ideal.Run → ideal.Run
-  Passes f k m u = cond (u.station m.to).power (ideal.handed Q m.mail m.revision m.to m.from f k u) u
+  Passes f k m u = cond (u.station m.receiver).power (ideal.handed Q m.kind m.revision m.receiver m.sender f k u) u
 
-  delivers : (i : ℕ) (copy : Bool) (f k : ℕ) → i < length st.store.post
-      → To (handed π (message_at i st) f k (cond copy st (removed i st))).state (Passes f k (get_or V.post i (ideal.letter ideal.ACK 0 0 0)) (ideal.with_post (cond copy V.post (ideal.drop_at i V.post)) V))
+  delivers : (i : ℕ) (copy : Bool) (f k : ℕ) → i < length st.store.post → To (handed π (message_at i st) f k (cond copy st (removed i st))).state (Passes f k (message_at i st) (ideal.with_post (cond copy V.post (ideal.drop_at i V.post)) V))
   delivers i copy f k lt =
-      let p = st.store.post in
       let m = message_at i st in
-      let d = ideal.letter ideal.ACK 0 0 0 in
-      let e : get_or V.post i d ≡ message_as m = get_or-map message_as p i (letter message.Prepare 0 0 0) d lt in
-      let long : i < length V.post = omega (arith, length-map p message_as) in
-      let legal = All-get_or _ V.post i d long g.full.inv.safe.msgs in
-      let near = All-get_or _ V.post i d long g.full.near.posts in
-      moved_to (handed π m f k (cond copy st (removed i st))).state (Passes f k (message_as m) (view n (cond copy st (removed i st)))) _
-      (handed_view π 𝓗 n two eight (cond copy st (removed i st)) (left_good i copy) m
-      (subst (λ (x : ideal.Message). x.to < n) e near.1)
-      (subst (λ (x : ideal.Message). x.from < n) e near.0)
-      (subst (λ (c : ℕ). m.revision < c) (sym (left_log i copy)) (subst (λ (x : ideal.Message). x.revision < length st.store.log) e legal.0)) f k)
-      (λ j. Passes f k (sym e j) (left_view i copy j))
+      let legal = All-get_or _ V.post i (letter message.Prepare 0 0 0) lt g.full.inv.safe.msgs in
+      let near = All-get_or _ V.post i (letter message.Prepare 0 0 0) lt g.full.near.posts in
+      moved_to (handed π m f k (cond copy st (removed i st))).state (Passes f k m (view n (cond copy st (removed i st)))) _
+      (handed_view π 𝓗 n two eight (cond copy st (removed i st)) (left_good i copy) m near.1 near.0 (subst (λ (c : ℕ). m.revision < c) (sym (left_log i copy)) legal.0) f k)
+      (ap (Passes f k m) (left_view i copy))
 
   pub deliver_view : (i : ℕ) (copy : Bool) (f k : ℕ) → To (deliver_call π i copy f k st).state (ideal.call Q (ideal.deliver i copy f k) V)
   deliver_view i copy f k =
-      subst (λ (c : ℕ). To (deliver_call π i copy f k st).state (cond (ltb i c) (Passes f k (get_or V.post i (ideal.letter ideal.ACK 0 0 0)) (ideal.with_post (cond copy V.post (ideal.drop_at i V.post)) V)) V)) (sym (length-map st.store.post message_as))
-      (go st.fit (ltb i (length st.store.post)) g.shape.fit refl)
+      go st.fit (ltb i (length st.store.post)) g.shape.fit refl
     where
       go : (a b : Bool) → a ≡ true → ltb i (length st.store.post) ≡ b
-          → To (cond a (cond b (handed π (message_at i st) f k (cond copy st (removed i st))) (refuse 7 st)) (refuse 1 st)).state (cond b (Passes f k (get_or V.post i (ideal.letter ideal.ACK 0 0 0)) (ideal.with_post (cond copy V.post (ideal.drop_at i V.post)) V)) V)
+          → To (cond a (cond b (handed π (message_at i st) f k (cond copy st (removed i st))) (refuse 7 st)) (refuse 1 st)).state (cond b (Passes f k (get_or V.post i (ideal.letter ideal.PREPARE 0 0 0)) (ideal.with_post (cond copy V.post (ideal.drop_at i V.post)) V)) V)
       go false b e q = absurd (true≢false (sym e))
       go true false e q = unchanged V refl
-      go true true e q = delivers i copy f k (true_lt _ _ q)
+      go true true e q = delivers i copy f k (ltb-true _ _ q)
 
   pub lose_view : (i : ℕ) → To (lose_call i st).state (ideal.call Q (ideal.lose i) V)
   lose_view i = go st.fit (ltb i (length st.store.post)) g.shape.fit refl
     where
       go : (a b : Bool) → a ≡ true → ltb i (length st.store.post) ≡ b → To (cond a (cond b (reply (answered 0) (removed i st)) (refuse 7 st)) (refuse 1 st)).state (ideal.with_post (ideal.drop_at i V.post) V)
       go false b e q = absurd (true≢false (sym e))
-      go true false e q = unchanged _ (ap (λ (l : List ideal.Message). ideal.with_post l V) (past i V.post (omega (arith, false_lt i (length st.store.post) q, length-map st.store.post message_as))))
+      go true false e q = unchanged _ (ap (λ (l : List ideal.Message). ideal.with_post l V) (past i V.post (omega (arith, ltb-false i (length st.store.post) q))))
       go true true e q = (left_view i false, (left_good i false).shape)
 
   -- a question changes nothing
@@ -306,34 +274,23 @@ module _ (π : Answers) (𝓗 : Lawful π) (n : ℕ) (two : 2 ≤ n) (eight : n 
       go false b c e q = absurd (true≢false (sym e))
       go true false c e q = unchanged V refl
       go true true false e q = unchanged V refl
-      go true true true e q = (cut_view n s k st (true_lt _ _ q) g.shape, shape_cut n s k st (true_lt _ _ q) g.shape)
+      go true true true e q = (cut_view n s k st (ltb-true _ _ q) g.shape, shape_cut n s k st (ltb-true _ _ q) g.shape)
 
   module _ (s : ℕ) (h : s < n) where
     abbrev L : List Record
     L = (section st.store.journal s).stable
 
     abbrev M : List ideal.Record
-    M = map record_as L
+    M = L
 
     abbrev Told : ideal.Kind → ideal.Outcome → ℕ → ideal.CoordinatorEntry
     Told k o r = ideal.await o (Q.ackers o (ideal.argument_of k r M))
 
-    set_of : (k : Kind) (r a : ℕ) → ideal.code (kind_as k) < 3 → ideal.has (kind_as k) r M ≡ true → ideal.argument_of (kind_as k) r M ≡ a → a ≡ 0 → ⊥
-    set_of k r a c e q z =
-        let legal = has_legal Q (world V) s (kind_as k) r M (g.full.inv.safe.recs s).0 e in
-        g.shape.sets r legal.0 (sym (named k c legal.1) ∙ (q ∙ z))
-      where
-        named : (k : Kind) → ideal.code (kind_as k) < 3 → RecOf Q (world V) s (kind_as k) r (ideal.argument_of (kind_as k) r M) → ideal.argument_of (kind_as k) r M ≡ (V.plan r).names
-        named kind.Opening c l = l.1
-        named kind.Commit c l = l.1
-        named kind.Abort c l = l.1
-        named kind.End c l = absurd (omega arith)
-        named kind.Prepared c l = absurd (omega arith)
-        named kind.Committed c l = absurd (omega arith)
-        named kind.Aborted c l = absurd (omega arith)
+    set_of : (k : Kind) (r a : ℕ) → Carries k → ideal.has k r M ≡ true → ideal.argument_of k r M ≡ a → a ≡ 0 → ⊥
+    set_of k r a c e q z = g.shape.sets r (has_legal Q (world V) s k r M (g.full.inv.safe.recs s).0 e).0 (sym (args_of Q (laws π 𝓗 n two eight) s V g.full.inv.safe k r c e) ∙ (q ∙ z))
 
-    told : (k : Kind) (o : Outcome) (r : ℕ) (x : Record) → ideal.code (kind_as k) < 3 → Finds k r L (Some x) → co_as (announcing π o (of_bits x.argument)) ≡ Told (kind_as k) (outcome_as o) r
-    told k o r x c f = await_all π 𝓗 n two eight st g o (of_bits x.argument) (set_of k r x.argument c f.0 f.1) ∙ ap (λ (a : ℕ). ideal.await (outcome_as o) (Q.ackers (outcome_as o) a)) (sym f.1)
+    told : (k : Kind) (o : Outcome) (r : ℕ) (x : Record) → Carries k → Finds k r L (Some x) → co_as (announcing π o (of_bits x.argument)) ≡ Told k o r
+    told k o r x c f = await_all π 𝓗 n two eight st g o (of_bits x.argument) (set_of k r x.argument c f.0 f.1) ∙ ap (λ (a : ℕ). ideal.await o (Q.ackers o a)) (sym f.1)
 
     resumed_co : (r : ℕ) → co_as (resumed_coordinator π r L) ≡ ideal.resumed Q M r
     resumed_co r = ap (λ (b : Bool). co_as (cond b coordinator.None (announced π (decision r L)))) (sym (has_as kind.End r L)) ∙ go (ideal.has ideal.kE r M) (first_record kind.Commit r L) (first_record kind.Abort r L) (first_record kind.Opening r L) (finds kind.Commit r L) (finds kind.Abort r L) (finds kind.Opening r L)
@@ -341,15 +298,15 @@ module _ (π : Answers) (𝓗 : Lawful π) (n : ℕ) (two : 2 ≤ n) (eight : n 
         go : (b : Bool) (c a i : Option Record) → Finds kind.Commit r L c → Finds kind.Abort r L a → Finds kind.Opening r L i
             → co_as (cond b coordinator.None (announced π (told_by outcome.Commit c (told_by outcome.Abort a (told_by outcome.Abort i None))))) ≡ cond b ideal.none (ideal.outcome_of Q M r)
         go true c a i fc fa fi = refl
-        go false (Some x) a i fc fa fi = told kind.Commit outcome.Commit r x (omega arith) fc ∙ sym (cond-true (ideal.has ideal.kC r M) _ _ fc.0)
-        go false None (Some x) i fc fa fi = told kind.Abort outcome.Abort r x (omega arith) fa ∙ sym (cond-false (ideal.has ideal.kC r M) _ _ fc ∙ cond-true (ideal.has ideal.kA r M) _ _ fa.0)
-        go false None None (Some x) fc fa fi = told kind.Opening outcome.Abort r x (omega arith) fi ∙ sym (cond-false (ideal.has ideal.kC r M) _ _ fc ∙ (cond-false (ideal.has ideal.kA r M) _ _ fa ∙ cond-true (ideal.has ideal.kI r M) _ _ fi.0))
+        go false (Some x) a i fc fa fi = told kind.Commit outcome.Commit r x tt fc ∙ sym (cond-true (ideal.has ideal.kC r M) _ _ fc.0)
+        go false None (Some x) i fc fa fi = told kind.Abort outcome.Abort r x tt fa ∙ sym (cond-false (ideal.has ideal.kC r M) _ _ fc ∙ cond-true (ideal.has ideal.kA r M) _ _ fa.0)
+        go false None None (Some x) fc fa fi = told kind.Opening outcome.Abort r x tt fi ∙ sym (cond-false (ideal.has ideal.kC r M) _ _ fc ∙ (cond-false (ideal.has ideal.kA r M) _ _ fa ∙ cond-true (ideal.has ideal.kI r M) _ _ fi.0))
         go false None None None fc fa fi = sym (cond-false (ideal.has ideal.kC r M) _ _ fc ∙ (cond-false (ideal.has ideal.kA r M) _ _ fa ∙ cond-false (ideal.has ideal.kI r M) _ _ fi))
 
-    resumed_sub : (r : ℕ) → sub_as (resumed_subordinate r L) ≡ ideal.doubtful Q M r
-    resumed_sub r = (λ i. sub_as (doubt (first_record kind.Prepared r L) (sym (has_as kind.Committed r L) i || sym (has_as kind.Aborted r L) i))) ∙ go (first_record kind.Prepared r L) (ideal.has ideal.kc r M || ideal.has ideal.ka r M) (finds kind.Prepared r L)
+    resumed_sub : (r : ℕ) → (resumed_subordinate r L) ≡ ideal.doubtful Q M r
+    resumed_sub r = (λ i. (doubt (first_record kind.Prepared r L) (sym (has_as kind.Committed r L) i || sym (has_as kind.Aborted r L) i))) ∙ go (first_record kind.Prepared r L) (ideal.has ideal.kc r M || ideal.has ideal.ka r M) (finds kind.Prepared r L)
       where
-        go : (o : Option Record) (b : Bool) → Finds kind.Prepared r L o → sub_as (doubt o b) ≡ cond (ideal.has ideal.kp r M && not b) (ideal.Prepared (ideal.argument_of ideal.kp r M)) ideal.idle
+        go : (o : Option Record) (b : Bool) → Finds kind.Prepared r L o → (doubt o b) ≡ cond (ideal.has ideal.kp r M && not b) (ideal.Prepared (ideal.argument_of ideal.kp r M)) ideal.idle
         go None b f = ap (λ (c : Bool). cond (c && not b) (ideal.Prepared (ideal.argument_of ideal.kp r M)) ideal.idle) (sym f)
         go (Some x) true f = ap (λ (c : Bool). cond (c && false) (ideal.Prepared (ideal.argument_of ideal.kp r M)) ideal.idle) (sym f.0)
         go (Some x) false f = λ i. cond (sym f.0 i && true) (ideal.Prepared (sym f.1 i)) ideal.idle
@@ -379,7 +336,7 @@ module _ (π : Answers) (𝓗 : Lawful π) (n : ℕ) (two : 2 ≤ n) (eight : n 
     unfolding rebuilt
     rebuilt_as =
         λ i. record {
-          power = ap (λ (c : Bool). cond c true true) (lt_true s n h) i;
+          power = ap (λ (c : Bool). cond c true true) (lt-ltb s n h) i;
           stable = M;
           loose = (V.station s).loose;
           coordinators = fun_ext (λ r. elim (cases_lt r 32) [
@@ -387,8 +344,8 @@ module _ (π : Answers) (𝓗 : Lawful π) (n : ℕ) (two : 2 ≤ n) (eight : n 
             | inr l ↦ ap (λ (z : Entries). co_as z.coordinator) (rebuilt_past r l) ∙ co_past r l
           ]) i;
           subordinates = fun_ext (λ r. elim (cases_lt r 32) [
-            | inl l ↦ ap (λ (z : Entries). sub_as z.subordinate) (rebuilt_at r l) ∙ resumed_sub r
-            | inr l ↦ ap (λ (z : Entries). sub_as z.subordinate) (rebuilt_past r l) ∙ sub_past r l
+            | inl l ↦ ap (λ (z : Entries). z.subordinate) (rebuilt_at r l) ∙ resumed_sub r
+            | inr l ↦ ap (λ (z : Entries). z.subordinate) (rebuilt_past r l) ∙ sub_past r l
           ]) i;
         }
 
@@ -407,4 +364,4 @@ module _ (π : Answers) (𝓗 : Lawful π) (n : ℕ) (two : 2 ≤ n) (eight : n 
       go false b c e q = absurd (true≢false (sym e))
       go true false c e q = unchanged V refl
       go true true true e q = unchanged V refl
-      go true true false e q = restarts s (true_lt _ _ q)
+      go true true false e q = restarts s (ltb-true _ _ q)

@@ -1,62 +1,48 @@
 -- All that holds after every call, and what settling leaves.
-use Rattle.std.proofs.Common.{◌≡◌, ℕ, ◌+◌, ◌^◌, ◌<◌, ◌≤◌, Bool, true, false, cond, not, ◌&&◌, eqb, ltb, List, [], ◌∷◌, length, get_or, take, sym, refl, ap, ◌∙◌, subst, inl, inr, arith}
-use Rattle.std.specs.List.{AllByRecursion, range_with_len}
-use Rattle.std.proofs.ByRecursion.{All-weaker, All-get_or}
+use Rattle.std.proofs.Common.{◌≡◌, ℕ, ◌+◌, ◌^◌, ◌<◌, ◌≤◌, Bool, true, false, cond, not, ◌&&◌, eqb, ltb, List, [], ◌∷◌, length, get_or, take, sym, refl, ap, ◌∙◌, subst, inl, inr, arith, drop}
+use Rattle.std.specs.List.{AllByRecursion, range_with_len, sum_by}
+use Rattle.std.proofs.ByRecursion.{All-weaker, All-get_or, All-append, All-take, All-drop}
 use Rattle.std.proofs.lemmas.Bool.{or_from, cond_both, cond-true, cond-false, cases_Bool, true≢false, ne_eqb, and_parts, not-true, cases_lt, ltb-true}
-use Rattle.assurance.proofs.Ideal.{updated, in_set, members, Kind, kp, kc, ka, Record, is, has, CoordinatorEntry, none, Open, SubordinateEntry, idle, Active, Prepared, Station, ACK, Message, Plan, Run, Presumption, at_station, cut_station, with_message, marked_installed, marked_dropped, with_post, Act, write, force, send, installed, dropped, act_done, acts_done, Turn, stay, to_coordinator, to_subordinate, turn, step, letter, upon_close, upon_give_up, upon_reject, upon_chase, upon_inquire, handed, restarted_station, upon_open, drop_at, Call, open_revision, close, give_up, chase, reject, inquire, deliver, lose, cut, restart, settle, look, all_powered, hand_first, emptied, nudge, urged, asked, inquire_all, revise, revise_all, settled, fits, call, calls}
+use Rattle.assurance.proofs.Ideal.{updated, in_set, members, Kind, kp, kc, ka, Record, is, has, CoordinatorEntry, none, Open, SubordinateEntry, idle, Active, Prepared, Station, Message, Plan, Run, Presumption, at_station, cut_station, with_post, Act, Turn, step, letter, handed, restarted_station, upon_open, drop_at, Call, open_revision, close, give_up, chase, reject, inquire, deliver, lose, cut, restart, settle, look, all_powered, hand_first, emptied, urged, asked, inquire_all, revise, revise_all, settled, fits, call, calls, PREPARE}
 use Rattle.assurance.proofs.Lasting.{Got, No, world, Legal, SubLegal}
 use Rattle.assurance.proofs.Sets.{mem_zero, mem_below}
-use Rattle.assurance.proofs.Claims.{Laws, Quiet, new, up}
-use Rattle.assurance.proofs.Invariant.{Inv, inv_call, inv_first, inv_asked, inv_urged, inv_post, inv_handed, none_yet, all_drop_at}
-use Rattle.assurance.proofs.Rules.{Rule, acts_of, turn_of, For, Did, by_did, did_handed, did_close, did_give_up, did_chase, did_reject, did_inquire, did_nudge, counting_below, moved, same_locals}
+use Rattle.assurance.proofs.Claims.{Laws, Quiet, new}
+use Rattle.assurance.proofs.Invariant.{Inv, inv_post, none_yet, inv_did, safe_handed, safe_nudge, tidy_open, args_of}
+use Rattle.assurance.proofs.Rules.{Rule, acts_of, turn_of, For, Did, by_did, did_handed, did_close, did_give_up, did_chase, did_reject, did_inquire, did_nudge, counting_below}
 use Rattle.assurance.proofs.Ranges.{NearM, Near, near_in, near_did, Marked, marked_in, marked_did, cut_back, drp_did}
-use Rattle.assurance.proofs.Counts.{FewS, Few, few_in, few_did, few_cut, few_restart, few_open, room, kinds}
+use Rattle.assurance.proofs.Counts.{FewS, Few, few_did, few_cut, few_restart, few_open, room, ended, sort_of, counts, left_of, left, left_none}
 use Rattle.assurance.proofs.Loads.{keeps_emptied}
 use Rattle.assurance.proofs.Whole.{On, Sure, Rested}
-use Rattle.assurance.proofs.Tidy.{locals, turned_station, at_acts}
 use Rattle.assurance.proofs.UnderWay.{Elem, elem_members}
 use Rattle.assurance.proofs.Settled.{settles, rest_all, installed_all}
-
-count_acts : (s : ℕ) (l : List Act) (st : Run) → (acts_done s l st).count ≡ st.count
-count_acts s [] st = refl
-count_acts s (write x ∷ l) st = count_acts s l (act_done s (write x) st)
-count_acts s (force ∷ l) st = count_acts s l (act_done s force st)
-count_acts s (send m ∷ l) st = count_acts s l (with_message m st)
-count_acts s (installed r ∷ l) st = count_acts s l (marked_installed r s st)
-count_acts s (dropped r ∷ l) st = count_acts s l (marked_dropped r s st)
-
-count_turn : (s : ℕ) (tn : Turn) (st : Run) → (turn s tn st).count ≡ st.count
-count_turn s stay st = refl
-count_turn s (to_coordinator r e) st = refl
-count_turn s (to_subordinate r e) st = refl
+use Rattle.assurance.proofs.Local.{locals, turned_power, same_locals, in_at, step_at, plan_step}
+use Rattle.assurance.proofs.SafeActs.{SafeSt, safe_cut}
+use Rattle.assurance.proofs.SafeRules.{TidyS, safe_give_up, safe_reject, is_that}
+use Rattle.assurance.proofs.SafeCalls.{safe_chase, safe_inquire, safe_close, safe_restart}
+use Rattle.assurance.proofs.SafeOpen.{safe_open}
+use Rattle.assurance.proofs.Tidy.{tidy_cut, tidy_restart}
+use Rattle.std.proofs.lemmas.List.Sums.{sum_by-cons}
+use Rattle.std.proofs.lemmas.Bool.Decides.{nat_tests}
 
 -- a dark station has no entry
-abbrev pub Dark : Run → Type 0
-Dark st = (s : ℕ) → (st.station s).power ≡ false → (r : ℕ) → ((st.station s).coordinators r ≡ none) × ((st.station s).subordinates r ≡ idle)
+abbrev pub DarkS : Station → Type 0
+DarkS y = y.power ≡ false → (r : ℕ) → (y.coordinators r ≡ none) × (y.subordinates r ≡ idle)
 
-powered_turn : (tn : Turn) (y : Station) → (turned_station tn y).power ≡ y.power
-powered_turn stay y = refl
-powered_turn (to_coordinator r e) y = refl
-powered_turn (to_subordinate r e) y = refl
+abbrev pub Dark : Run → Type 0
+Dark st = (s : ℕ) → DarkS (st.station s)
 
 dark_step : (s : ℕ) (l : List Act) (tn : Turn) (f k : ℕ) (st : Run) → (st.station s).power ≡ true → Dark st → Dark (step s l tn f k st)
 dark_step s l tn f k st on h =
-    cond_both (ltb f (length l)) (at_station s (cut_station k) (acts_done s (take f l) st)) (turn s tn (acts_done s l st)) Dark
-    (λ _ t. cond_both (eqb s t) (cut_station k ((acts_done s (take f l) st).station s)) ((acts_done s (take f l) st).station t) (λ (y : Station). y.power ≡ false → (r : ℕ) → (y.coordinators r ≡ none) × (y.subordinates r ≡ idle))
-    (λ _ _ r. (refl, refl))
-    (λ e. subst (λ (y : Station). y.power ≡ false → (r : ℕ) → (y.coordinators r ≡ none) × (y.subordinates r ≡ idle)) (sym (at_acts s t (take f l) st ∙ cond-false (eqb s t) _ _ e)) (h t)))
-    (λ _ t. subst (λ (y : Station). y.power ≡ false → (r : ℕ) → (y.coordinators r ≡ none) × (y.subordinates r ≡ idle)) (sym (moved s t l tn st))
-    (cond_both (eqb s t) (turned_station tn (locals l (st.station s))) (st.station t) (λ (y : Station). y.power ≡ false → (r : ℕ) → (y.coordinators r ≡ none) × (y.subordinates r ≡ idle))
-    (λ _ off. absurd (true≢false (sym (powered_turn tn (locals l (st.station s)) ∙ ((same_locals l (st.station s)).0 ∙ on)) ∙ off)))
-    (λ _. h t)))
-
-dark_in : (s : ℕ) (g : Station → Station) (st : Run) → ((g (st.station s)).power ≡ false → (r : ℕ) → ((g (st.station s)).coordinators r ≡ none) × ((g (st.station s)).subordinates r ≡ idle)) → Dark st → Dark (at_station s g st)
-dark_in s g st k h t = cond_both (eqb s t) (g (st.station s)) (st.station t) (λ (y : Station). y.power ≡ false → (r : ℕ) → (y.coordinators r ≡ none) × (y.subordinates r ≡ idle)) (λ _. k) (λ _. h t)
+    step_at (λ _. DarkS) s l tn f k st (λ _ r. (refl, refl))
+    (λ off. absurd (true≢false (sym (turned_power tn (locals l (st.station s)) ∙ ((same_locals l (st.station s)).0 ∙ on)) ∙ off))) h
 
 on_elem : (l : List ℕ) (st : Run) (s : ℕ) → all_powered l st ≡ true → Elem s l → (st.station s).power ≡ true
 on_elem [] st s h e = absurd e
 on_elem (x ∷ l) st s h (inl e) = subst (λ (y : ℕ). (st.station y).power ≡ true) e (and_parts (st.station x).power (all_powered l st) h).0
 on_elem (x ∷ l) st s h (inr e) = on_elem l st s (and_parts (st.station x).power (all_powered l st) h).1 e
+
+all_drop_at : {X : Type 0} (P : X → Type 0) (n : ℕ) (l : List X) → AllByRecursion P l → AllByRecursion P (drop_at n l)
+all_drop_at P n l h = All-append P (take n l) (drop (n + 1) l) (All-take P n l h) (All-drop P (n + 1) l h)
 
 dark_open : (n c all : ℕ) (st : Run) → all < 2 ^ n → (st.station c).power ≡ true → all_powered (members n all) st ≡ true → Dark st → Dark (upon_open c all st)
 dark_open n c all st small on ons h s off r = (
@@ -72,11 +58,7 @@ module _ (π : Presumption) (𝓛 : Laws π) where
   dark_did st r s t f k P v on d h = by_did π Dark st r s t f k P v d h (λ u w _. dark_step s (acts_of π u r s t) (turn_of π u r) f k st on h)
 
   count_did : (st : Run) (r s t f k : ℕ) (P : Rule → Type 0) (v : Run) → Did π st r s t f k P v → v.count ≡ st.count
-  count_did st r s t f k P v d =
-      by_did π (λ (v : Run). v.count ≡ st.count) st r s t f k P v d refl
-      (λ u w _. cond_both (ltb f (length (acts_of π u r s t))) (at_station s (cut_station k) (acts_done s (take f (acts_of π u r s t)) st)) (turn s (turn_of π u r) (acts_done s (acts_of π u r s t) st)) (λ (v : Run). v.count ≡ st.count)
-      (λ _. count_acts s (take f (acts_of π u r s t)) st)
-      (λ _. count_turn s (turn_of π u r) (acts_done s (acts_of π u r s t) st) ∙ count_acts s (acts_of π u r s t) st))
+  count_did st r s t f k P v d = by_did π (λ (v : Run). v.count ≡ st.count) st r s t f k P v d refl (λ u w _. (plan_step s (acts_of π u r s t) (turn_of π u r) f k st).1)
 
   -- what a settle keeps
   module _ (Q : Run → Type 0) (each : (m : Message) (ms : List Message) (st : Run) → m ∷ ms ≡ st.post → Q st → Q (hand_first π m (with_post ms st))) (urge : (r : ℕ) (st : Run) → Q st → Q (urged π r st)) (ask : (r s : ℕ) (st : Run) → s < π.size → Q st → Q (asked π r s st)) where
@@ -106,10 +88,10 @@ module _ (π : Presumption) (𝓛 : Laws π) where
     pub cap : st.count ≤ 32
     pub dark : Dark st
 
-  full_did : (st : Run) (r s t f k : ℕ) (P : Rule → Type 0) (v : Run) → Inv π 𝓛 v → (st.station s).power ≡ true → s < π.size → t < π.size → Did π st r s t f k P v → Full st → Full v
-  full_did st r s t f k P v i on a b d h =
+  full_did : (st : Run) (r s t f k : ℕ) (P : Rule → Type 0) (v : Run) → Full st → SafeSt π v → (st.station s).power ≡ true → s < π.size → t < π.size → Did π st r s t f k P v → Full v
+  full_did st r s t f k P v h safe on a b d =
       record {
-        inv = i;
+        inv = inv_did π 𝓛 st r s t f k P v on safe d h.inv;
         near = near_did π 𝓛 st r s t f k P v h.inv.safe a b d h.near;
         marked = marked_did π 𝓛 st r s t f k P v d h.marked;
         few = few_did π 𝓛 st r s t f k P v d h.few;
@@ -117,33 +99,8 @@ module _ (π : Presumption) (𝓛 : Laws π) where
         dark = dark_did st r s t f k P v on d h.dark;
       }
 
-  pub full_post : (st : Run) (p : List Message) → Inv π 𝓛 (with_post p st) → AllByRecursion (NearM π.size) p → Full st → Full (with_post p st)
-  full_post st p i n h = record { inv = i; near = record { posts = n; plans = h.near.plans; sets = h.near.sets; far = h.near.far }; marked = h.marked; few = h.few; cap = h.cap; dark = h.dark }
-
-  pub full_first : (m : Message) (ms : List Message) (st : Run) → m ∷ ms ≡ st.post → Full st → Full (hand_first π m (with_post ms st))
-  full_first m ms st e h =
-      let n : AllByRecursion (NearM π.size) (m ∷ ms) = subst (AllByRecursion (NearM π.size)) (sym e) h.near.posts in
-      let a : AllByRecursion (Legal π (world st)) (m ∷ ms) = subst (AllByRecursion (Legal π (world st))) (sym e) h.inv.safe.msgs in
-      let i = inv_first π 𝓛 m ms st e h.inv in
-      let h' = full_post st ms (inv_post π 𝓛 st ms h.inv a.1) n.1 h in
-      go (st.station m.to).power refl i h' n.0
-    where
-      go : (b : Bool) → (st.station m.to).power ≡ b → Inv π 𝓛 (hand_first π m (with_post ms st)) → Full (with_post ms st) → NearM π.size m → Full (hand_first π m (with_post ms st))
-      go true on i h' n =
-          let e = cond-true (st.station m.to).power (handed π m.mail m.revision m.to m.from 255 0 (with_post ms st)) (with_post ms st) on in
-          rw e (full_did (with_post ms st) m.revision m.to m.from 255 0 (λ u. For π u m.mail) _ (rw e at i) on n.1 n.0 (did_handed π m.mail m.revision m.to m.from 255 0 (with_post ms st)) h')
-      go false on i h' n = rw (cond-false (st.station m.to).power (handed π m.mail m.revision m.to m.from 255 0 (with_post ms st)) (with_post ms st) on) h'
-
-  -- a step under a question
-  full_cond : (b : Bool) (st v : Run) (r s t f k : ℕ) (P : Rule → Type 0) → Inv π 𝓛 (cond b v st) → (b ≡ true → (st.station s).power ≡ true) → (b ≡ true → s < π.size) → (b ≡ true → t < π.size) → Did π st r s t f k P v → Full st → Full (cond b v st)
-  full_cond true st v r s t f k P i on a j d h = full_did st r s t f k P v i (on refl) (a refl) (j refl) d h
-  full_cond false st v r s t f k P i on a j d h = h
-
-  pub full_urged : (r : ℕ) (st : Run) → Full st → Full (urged π r st)
-  full_urged r st h = let s = (st.plan r).coordinator in full_cond (st.station s).power st (nudge π r s ((st.station s).coordinators r) st) r s s 255 0 _ (inv_urged π 𝓛 r st h.inv) (λ e. e) (λ _. h.near.plans r) (λ _. h.near.plans r) (did_nudge π r s st ((st.station s).coordinators r) refl) h
-
-  pub full_asked : (r s : ℕ) (st : Run) → s < π.size → Full st → Full (asked π r s st)
-  full_asked r s st l h = full_cond (st.station s).power st (upon_inquire π r s ((st.station s).subordinates r) 255 0 st) r s s 255 0 _ (inv_asked π 𝓛 r s st h.inv) (λ e. e) (λ _. l) (λ _. l) (did_inquire π r s 255 0 st ((st.station s).subordinates r) refl) h
+  full_post : (st : Run) (p : List Message) → AllByRecursion (Legal π (world st)) p → AllByRecursion (NearM π.size) p → Full st → Full (with_post p st)
+  full_post st p l n h = record { inv = inv_post π 𝓛 st p h.inv l; near = record { posts = n; plans = h.near.plans; sets = h.near.sets; far = h.near.far }; marked = h.marked; few = h.few; cap = h.cap; dark = h.dark }
 
   fits_parts : (n c all : ℕ) → fits n c all ≡ true → (c < n) × (all < 2 ^ n)
   unfolding fits
@@ -152,110 +109,167 @@ module _ (π : Presumption) (𝓛 : Laws π) where
   lt_of : (s : ℕ) (b : Bool) → (ltb s π.size && b) ≡ true → s < π.size
   lt_of s b e = ltb-true s π.size (and_parts _ _ e).0
 
-  pub full_call : (c : Call) (st : Run) → Full st → Full (call π c st)
-  full_call (open_revision c all) st h = go (fits π.size c all && (ltb st.count 32 && ((st.station c).power && all_powered (members π.size all) st))) refl
-    where
-      opened : fits π.size c all ≡ true → ltb st.count 32 ≡ true → (st.station c).power ≡ true → all_powered (members π.size all) st ≡ true → Inv π 𝓛 (upon_open c all st) → Full (upon_open c all st)
-      opened f l on ons i =
-          record {
-            inv = i;
-            near = record {
-              posts = h.near.posts;
-              plans = λ r. cond_both (eqb st.count r) (record { coordinator = c; names = all }) (st.plan r) (λ (p : Plan). p.coordinator < π.size) (λ _. (fits_parts π.size c all f).0) (λ _. h.near.plans r);
-              sets = λ r t. cond_both (eqb st.count r) (record { coordinator = c; names = all }) (st.plan r) (λ (p : Plan). in_set p.names t ≡ true → t < π.size) (λ _ m. mem_below π.size all t (fits_parts π.size c all f).1 m) (λ _ m. h.near.sets r t m);
-              far = h.near.far;
-            };
-            marked = h.marked;
-            few = λ s. few_open π 𝓛 st.count c all s (st.station s) (λ k. none_yet π 𝓛 st h.inv.safe s k) (h.few s);
-            cap = omega (arith, ltb-true st.count 32 l);
-            dark = dark_open π.size c all st (fits_parts π.size c all f).1 on ons h.dark;
-          }
+  -- what may be opened
+  abbrev Opens : ℕ → ℕ → Run → Bool
+  Opens c all st = fits π.size c all && (ltb st.count 32 && ((st.station c).power && all_powered (members π.size all) st))
 
-      go : (b : Bool) → (fits π.size c all && (ltb st.count 32 && ((st.station c).power && all_powered (members π.size all) st))) ≡ b → Full (cond b (upon_open c all st) st)
-      go true e = let p = and_parts _ _ e in let q = and_parts _ _ p.1 in let z = and_parts _ _ q.1 in opened p.0 q.0 z.0 z.1 (subst (Inv π 𝓛) (cond-true _ (upon_open c all st) st e) (inv_call π 𝓛 (open_revision c all) st h.inv))
-      go false e = h
-  full_call (close r f k) st h = let s = (st.plan r).coordinator in full_cond (st.station s).power st (upon_close π r s ((st.station s).coordinators r) f k st) r s s f k _ (inv_call π 𝓛 (close r f k) st h.inv) (λ e. e) (λ _. h.near.plans r) (λ _. h.near.plans r) (did_close π r s f k st ((st.station s).coordinators r) refl) h
-  full_call (give_up r f k) st h = let s = (st.plan r).coordinator in full_cond (st.station s).power st (upon_give_up π r s ((st.station s).coordinators r) f k st) r s s f k _ (inv_call π 𝓛 (give_up r f k) st h.inv) (λ e. e) (λ _. h.near.plans r) (λ _. h.near.plans r) (did_give_up π r s f k st ((st.station s).coordinators r) refl) h
-  full_call (chase r f k) st h = let s = (st.plan r).coordinator in full_cond (st.station s).power st (upon_chase π r s ((st.station s).coordinators r) f k st) r s s f k _ (inv_call π 𝓛 (chase r f k) st h.inv) (λ e. e) (λ _. h.near.plans r) (λ _. h.near.plans r) (did_chase π r s f k st ((st.station s).coordinators r) refl) h
-  full_call (reject r s f k) st h = full_cond (ltb s π.size && (st.station s).power) st (upon_reject π r s ((st.station s).subordinates r) f k st) r s s f k _ (inv_call π 𝓛 (reject r s f k) st h.inv) (λ e. (and_parts _ _ e).1) (lt_of s _) (lt_of s _) (did_reject π r s f k st ((st.station s).subordinates r) refl) h
-  full_call (inquire r s f k) st h = full_cond (ltb s π.size && (st.station s).power) st (upon_inquire π r s ((st.station s).subordinates r) f k st) r s s f k _ (inv_call π 𝓛 (inquire r s f k) st h.inv) (λ e. (and_parts _ _ e).1) (lt_of s _) (lt_of s _) (did_inquire π r s f k st ((st.station s).subordinates r) refl) h
-  full_call (deliver i copy f k) st h =
-      cond_both (ltb i (length st.post)) _ st Full
-      (λ lt. let m : Message = get_or st.post i (letter ACK 0 0 0) in
-      let l : Legal π (world st) m = All-get_or _ st.post i (letter ACK 0 0 0) (ltb-true i (length st.post) lt) h.inv.safe.msgs in
-      let n : NearM π.size m = All-get_or _ st.post i (letter ACK 0 0 0) (ltb-true i (length st.post) lt) h.near.posts in
-      let p : List Message = cond copy st.post (drop_at i st.post) in
-      let i' : Inv π 𝓛 (with_post p st) = inv_post π 𝓛 st p h.inv (cond_both copy st.post (drop_at i st.post) (AllByRecursion (Legal π (world st))) (λ _. h.inv.safe.msgs) (λ _. all_drop_at π 𝓛 _ i st.post h.inv.safe.msgs)) in
-      let h' : Full (with_post p st) = full_post st p i' (cond_both copy st.post (drop_at i st.post) (AllByRecursion (NearM π.size)) (λ _. h.near.posts) (λ _. all_drop_at π 𝓛 _ i st.post h.near.posts)) h in
-      cond_both (st.station m.to).power (handed π m.mail m.revision m.to m.from f k (with_post p st)) (with_post p st) Full
-      (λ on. full_did (with_post p st) m.revision m.to m.from f k (λ u. For π u m.mail) _ (inv_handed π 𝓛 m.mail m.revision m.to m.from f k (with_post p st) on i' l) on n.1 n.0 (did_handed π m.mail m.revision m.to m.from f k (with_post p st)) h')
-      (λ _. h'))
-      (λ _. h)
-  full_call (lose i) st h = full_post st (drop_at i st.post) (inv_call π 𝓛 (lose i) st h.inv) (all_drop_at π 𝓛 _ i st.post h.near.posts) h
-  full_call (cut s k) st h = go (ltb s π.size && (st.station s).power) refl
-    where
-      go : (b : Bool) → (ltb s π.size && (st.station s).power) ≡ b → Full (cond b (at_station s (cut_station k) st) st)
-      go true e = record { inv = subst (Inv π 𝓛) (cond-true _ (at_station s (cut_station k) st) st e) (inv_call π 𝓛 (cut s k) st h.inv); near = near_in π.size s (cut_station k) st (lt_of s _ e) h.near; marked = marked_in s (cut_station k) st (λ r q. inl (cut_back 0 r k (st.station s) q)) h.marked; few = few_in π 𝓛 s (cut_station k) st h.few (few_cut k (st.station s) (h.few s)); cap = h.cap; dark = dark_in s (cut_station k) st (λ _ r. (refl, refl)) h.dark }
-      go false e = h
-  full_call (restart s) st h = go (ltb s π.size && not (st.station s).power) refl
-    where
-      go : (b : Bool) → (ltb s π.size && not (st.station s).power) ≡ b → Full (cond b (at_station s (restarted_station π) st) st)
-      go true e = record { inv = subst (Inv π 𝓛) (cond-true _ (at_station s (restarted_station π) st) st e) (inv_call π 𝓛 (restart s) st h.inv); near = near_in π.size s (restarted_station π) st (lt_of s _ e) h.near; marked = marked_in s (restarted_station π) st (λ r q. inl q) h.marked; few = few_in π 𝓛 s (restarted_station π) st h.few (few_restart π 𝓛 (st.station s) ((h.inv.tidy s).dark (not-true _ (and_parts _ _ e).1)) (h.few s)); cap = h.cap; dark = dark_in s (restarted_station π) st (λ z. absurd (true≢false z)) h.dark }
-      go false e = h
-  full_call settle st h = cond_both (all_powered (range_with_len 0 π.size) st) (settled π st).left st Full (λ _. keeps_settled Full full_first full_urged full_asked st h) (λ _. h)
-  full_call look st h = h
+  full_open : (c all : ℕ) (st : Run) → Full st → Opens c all st ≡ true → Full (upon_open c all st)
+  full_open c all st h e =
+      let p = and_parts (fits π.size c all) (ltb st.count 32 && ((st.station c).power && all_powered (members π.size all) st)) e in
+      let q = and_parts (ltb st.count 32) ((st.station c).power && all_powered (members π.size all) st) p.1 in
+      let z = and_parts (st.station c).power (all_powered (members π.size all) st) q.1 in
+      let f = fits_parts π.size c all p.0 in
+      record {
+        inv = record { safe = safe_open π c all st h.inv.safe; tidy = tidy_open π 𝓛 c all st h.inv.safe h.inv.tidy };
+        near = record {
+          posts = h.near.posts;
+          plans = λ r. cond_both (eqb st.count r) (record { coordinator = c; names = all }) (st.plan r) (λ (p : Plan). p.coordinator < π.size) (λ _. f.0) (λ _. h.near.plans r);
+          sets = λ r t. cond_both (eqb st.count r) (record { coordinator = c; names = all }) (st.plan r) (λ (p : Plan). in_set p.names t ≡ true → t < π.size) (λ _ m. mem_below π.size all t f.1 m) (λ _ m. h.near.sets r t m);
+          far = h.near.far;
+        };
+        marked = h.marked;
+        few = λ s. few_open π 𝓛 st.count c all s (st.station s) (λ k. none_yet π 𝓛 st h.inv.safe s k) (h.few s);
+        cap = omega (arith, ltb-true st.count 32 q.0);
+        dark = dark_open π.size c all st f.1 z.0 z.1 h.dark;
+      }
+
+  full_cut : (s k : ℕ) (st : Run) → Full st → s < π.size → Full (at_station s (cut_station k) st)
+  full_cut s k st h l =
+      record {
+        inv = record { safe = safe_cut π st s h.inv.safe k; tidy = in_at (TidyS π st.plan) s (cut_station k) st (tidy_cut π st.plan s k (st.station s)) h.inv.tidy };
+        near = near_in π.size s (cut_station k) st l h.near;
+        marked = marked_in s (cut_station k) st (λ r q. inl (cut_back 0 r k (st.station s) q)) h.marked;
+        few = in_at (λ _. FewS) s (cut_station k) st (few_cut k (st.station s) (h.few s)) h.few;
+        cap = h.cap;
+        dark = in_at (λ _. DarkS) s (cut_station k) st (λ _ r. (refl, refl)) h.dark;
+      }
+
+  full_restart : (s : ℕ) (st : Run) → Full st → s < π.size → (st.station s).power ≡ false → Full (at_station s (restarted_station π) st)
+  full_restart s st h l off =
+      let bare = (h.inv.tidy s).dark off in
+      record {
+        inv = record { safe = safe_restart π 𝓛 s st h.inv.safe bare; tidy = in_at (TidyS π st.plan) s (restarted_station π) st (tidy_restart π st.plan s 𝓛 (st.station s) (h.inv.tidy s) off (args_of π 𝓛 s st h.inv.safe)) h.inv.tidy };
+        near = near_in π.size s (restarted_station π) st l h.near;
+        marked = marked_in s (restarted_station π) st (λ r q. inl q) h.marked;
+        few = in_at (λ _. FewS) s (restarted_station π) st (few_restart π 𝓛 (st.station s) bare (h.few s)) h.few;
+        cap = h.cap;
+        dark = in_at (λ _. DarkS) s (restarted_station π) st (λ z. absurd (true≢false z)) h.dark;
+      }
+
+  -- what every part of a call keeps
+  pub record Kept (Q : Run → Type 0) : Type 1 where
+    pub stepped : (st : Run) (r s t f k : ℕ) (P : Rule → Type 0) (v : Run) → Full st → SafeSt π v → (st.station s).power ≡ true → s < π.size → t < π.size → Did π st r s t f k P v → Q st → Q v
+    pub posted : (st : Run) (p : List Message) → AllByRecursion (Legal π (world st)) p → AllByRecursion (NearM π.size) p → Full st → Q st → Q (with_post p st)
+    pub opened : (c all : ℕ) (st : Run) → Full st → Opens c all st ≡ true → Q st → Q (upon_open c all st)
+    pub cut_off : (s k : ℕ) (st : Run) → Full st → s < π.size → Q st → Q (at_station s (cut_station k) st)
+    pub restarted : (s : ℕ) (st : Run) → Full st → s < π.size → (st.station s).power ≡ false → Q st → Q (at_station s (restarted_station π) st)
+
+  full_kept : Kept Full
+  full_kept =
+      record {
+        stepped = λ st r s t f k P v h safe on a b d _. full_did st r s t f k P v h safe on a b d;
+        posted = λ st p l n h _. full_post st p l n h;
+        opened = λ c all st h e _. full_open c all st h e;
+        cut_off = λ s k st h l _. full_cut s k st h l;
+        restarted = λ s st h l off _. full_restart s st h l off;
+      }
+
+  module _ (Q : Run → Type 0) (K : Kept Q) where
+    -- a step under a question
+    if_asked : (b : Bool) (st : Run) (r s t f k : ℕ) (P : Rule → Type 0) (v : Run) → Full st → (b ≡ true → SafeSt π v) → (b ≡ true → (st.station s).power ≡ true) → (b ≡ true → s < π.size) → (b ≡ true → t < π.size) → Did π st r s t f k P v → Q st → Q (cond b v st)
+    if_asked true st r s t f k P v h safe on a c d q = K.stepped st r s t f k P v h (safe refl) (on refl) (a refl) (c refl) d q
+    if_asked false st r s t f k P v h safe on a c d q = q
+
+    -- by the coordinator of a revision, and by a station that is there
+    by_coordinator : (r f k : ℕ) (P : Rule → Type 0) (st v : Run) → (let s = (st.plan r).coordinator in (Full st → SafeSt π v → Did π st r s s f k P v → Q st → Q (cond (st.station s).power v st)))
+    by_coordinator r f k P st v h safe d q = let s = (st.plan r).coordinator in if_asked (st.station s).power st r s s f k P v h (λ _. safe) (λ e. e) (λ _. h.near.plans r) (λ _. h.near.plans r) d q
+
+    by_station : (r s f k : ℕ) (P : Rule → Type 0) (st v : Run) → Full st → SafeSt π v → Did π st r s s f k P v → Q st → Q (cond (ltb s π.size && (st.station s).power) v st)
+    by_station r s f k P st v h safe d q = if_asked (ltb s π.size && (st.station s).power) st r s s f k P v h (λ _. safe) (λ e. (and_parts _ _ e).1) (lt_of s _) (lt_of s _) d q
+
+    -- a message that is handed over
+    by_message : (m : Message) (f k : ℕ) (st : Run) → Legal π (world st) m → NearM π.size m → Full st → Q st → Q (cond (st.station m.receiver).power (handed π m.kind m.revision m.receiver m.sender f k st) st)
+    by_message m f k st l n h q = go (st.station m.receiver).power refl
+      where
+        go : (b : Bool) → (st.station m.receiver).power ≡ b → Q (cond b (handed π m.kind m.revision m.receiver m.sender f k st) st)
+        go true on = K.stepped st m.revision m.receiver m.sender f k (λ u. For π u m.kind) _ h (safe_handed π 𝓛 m.kind m.revision m.receiver m.sender f k st on h.inv l) on n.1 n.0 (did_handed π m.kind m.revision m.receiver m.sender f k st) q
+        go false on = q
+
+    first_kept : (m : Message) (ms : List Message) (st : Run) → m ∷ ms ≡ st.post → Full st → Q st → Q (hand_first π m (with_post ms st))
+    first_kept m ms st e h q =
+        let n : AllByRecursion (NearM π.size) (m ∷ ms) = subst (AllByRecursion (NearM π.size)) (sym e) h.near.posts in
+        let l : AllByRecursion (Legal π (world st)) (m ∷ ms) = subst (AllByRecursion (Legal π (world st))) (sym e) h.inv.safe.msgs in
+        by_message m 255 0 (with_post ms st) l.0 n.0 (full_post st ms l.1 n.1 h) (K.posted st ms l.1 n.1 h q)
+
+    urged_kept : (r : ℕ) (st : Run) → Full st → Q st → Q (urged π r st)
+    urged_kept r st h q = by_coordinator r 255 0 _ st _ h (safe_nudge π 𝓛 r (st.plan r).coordinator st h.inv) (did_nudge π r (st.plan r).coordinator st ((st.station (st.plan r).coordinator).coordinators r) refl) q
+
+    asked_kept : (r s : ℕ) (st : Run) → s < π.size → Full st → Q st → Q (asked π r s st)
+    asked_kept r s st l h q = if_asked (st.station s).power st r s s 255 0 _ _ h (λ _. safe_inquire π 𝓛 r s ((st.station s).subordinates r) 255 0 st h.inv.safe refl) (λ e. e) (λ _. l) (λ _. l) (did_inquire π r s 255 0 st ((st.station s).subordinates r) refl) q
+
+  full_first : (m : Message) (ms : List Message) (st : Run) → m ∷ ms ≡ st.post → Full st → Full (hand_first π m (with_post ms st))
+  full_first m ms st e h = first_kept Full full_kept m ms st e h h
+
+  pub full_urged : (r : ℕ) (st : Run) → Full st → Full (urged π r st)
+  full_urged r st h = urged_kept Full full_kept r st h h
+
+  pub full_asked : (r s : ℕ) (st : Run) → s < π.size → Full st → Full (asked π r s st)
+  full_asked r s st l h = asked_kept Full full_kept r s st l h h
+
+  module _ (Q : Run → Type 0) (K : Kept Q) where
+    call_kept : (c : Call) (st : Run) → Full st → Q st → Q (call π c st)
+    call_kept (open_revision c all) st h q = cond_both (Opens c all st) (upon_open c all st) st Q (λ e. K.opened c all st h e q) (λ _. q)
+    call_kept (close r f k) st h q = let s = (st.plan r).coordinator in by_coordinator Q K r f k _ st _ h (safe_close π 𝓛 r s ((st.station s).coordinators r) f k st h.inv.safe refl) (did_close π r s f k st ((st.station s).coordinators r) refl) q
+    call_kept (give_up r f k) st h q = let s = (st.plan r).coordinator in by_coordinator Q K r f k _ st _ h (safe_give_up π 𝓛 r s ((st.station s).coordinators r) f k st h.inv.safe (h.inv.tidy s) refl) (did_give_up π r s f k st ((st.station s).coordinators r) refl) q
+    call_kept (chase r f k) st h q = let s = (st.plan r).coordinator in by_coordinator Q K r f k _ st _ h (safe_chase π 𝓛 r s ((st.station s).coordinators r) f k st h.inv.safe refl) (did_chase π r s f k st ((st.station s).coordinators r) refl) q
+    call_kept (reject r s f k) st h q = by_station Q K r s f k _ st _ h (safe_reject π 𝓛 r s ((st.station s).subordinates r) f k st h.inv.safe (h.inv.tidy s) refl) (did_reject π r s f k st ((st.station s).subordinates r) refl) q
+    call_kept (inquire r s f k) st h q = by_station Q K r s f k _ st _ h (safe_inquire π 𝓛 r s ((st.station s).subordinates r) f k st h.inv.safe refl) (did_inquire π r s f k st ((st.station s).subordinates r) refl) q
+    call_kept (deliver i copy f k) st h q =
+        cond_both (ltb i (length st.post)) _ st Q
+        (λ lt. let m : Message = get_or st.post i (letter PREPARE 0 0 0) in
+        let p : List Message = cond copy st.post (drop_at i st.post) in
+        let l = left_of copy (Legal π (world st)) i st.post h.inv.safe.msgs in
+        let n = left_of copy (NearM π.size) i st.post h.near.posts in
+        by_message Q K m f k (with_post p st) (All-get_or _ st.post i (letter PREPARE 0 0 0) (ltb-true i (length st.post) lt) h.inv.safe.msgs) (All-get_or _ st.post i (letter PREPARE 0 0 0) (ltb-true i (length st.post) lt) h.near.posts) (full_post st p l n h) (K.posted st p l n h q))
+        (λ _. q)
+      where
+        left_of : (copy : Bool) (P : Message → Type 0) (i : ℕ) (p : List Message) → AllByRecursion P p → AllByRecursion P (cond copy p (drop_at i p))
+        left_of true P i p h = h
+        left_of false P i p h = all_drop_at P i p h
+    call_kept (lose i) st h q = K.posted st (drop_at i st.post) (all_drop_at _ i st.post h.inv.safe.msgs) (all_drop_at _ i st.post h.near.posts) h q
+    call_kept (cut s k) st h q = cond_both (ltb s π.size && (st.station s).power) (at_station s (cut_station k) st) st Q (λ e. K.cut_off s k st h (lt_of s _ e) q) (λ _. q)
+    call_kept (restart s) st h q = cond_both (ltb s π.size && not (st.station s).power) (at_station s (restarted_station π) st) st Q (λ e. K.restarted s st h (lt_of s _ e) (not-true _ (and_parts _ _ e).1) q) (λ _. q)
+    call_kept settle st h q =
+        cond_both (all_powered (range_with_len 0 π.size) st) (settled π st).left st Q
+        (λ _. (keeps_settled (λ (v : Run). Full v × Q v) (λ m ms v e k. (full_first m ms v e k.0, first_kept Q K m ms v e k.0 k.1)) (λ r v k. (full_urged r v k.0, urged_kept Q K r v k.0 k.1)) (λ r s v l k. (full_asked r s v l k.0, asked_kept Q K r s v l k.0 k.1)) st (h, q)).1)
+        (λ _. q)
+    call_kept look st h q = q
+
+  pub full_call : (c : Call) (st : Run) → Full st → Full (call π c st)
+  full_call c st h = call_kept Full full_kept c st h h
+
+  calls_kept : (Q : Run → Type 0) → Kept Q → (cs : List Call) (st : Run) → Full st → Q st → Q (calls π cs st)
+  calls_kept Q K [] st h q = q
+  calls_kept Q K (c ∷ cs) st h q = calls_kept Q K cs (call π c st) (full_call c st h) (call_kept Q K c st h q)
 
   pub full_calls : (cs : List Call) (st : Run) → Full st → Full (calls π cs st)
-  full_calls [] st h = h
-  full_calls (c ∷ cs) st h = full_calls cs (call π c st) (full_call c st h)
+  full_calls cs st h = calls_kept Full full_kept cs st h h
 
   -- what was dropped stays dropped
-  drp_cond : (q x : ℕ) (b : Bool) (st v : Run) (r s t f k : ℕ) (P : Rule → Type 0) → Did π st r s t f k P v → in_set (st.dropped_at q) x ≡ true → in_set ((cond b v st).dropped_at q) x ≡ true
-  drp_cond q x true st v r s t f k P d h = drp_did π 𝓛 q x st r s t f k P v d h
-  drp_cond q x false st v r s t f k P d h = h
-
-  drp_first : (q x : ℕ) (m : Message) (ms : List Message) (st : Run) → m ∷ ms ≡ st.post → in_set (st.dropped_at q) x ≡ true → in_set ((hand_first π m (with_post ms st)).dropped_at q) x ≡ true
-  drp_first q x m ms st e h = drp_cond q x (st.station m.to).power (with_post ms st) (handed π m.mail m.revision m.to m.from 255 0 (with_post ms st)) m.revision m.to m.from 255 0 (λ u. For π u m.mail) (did_handed π m.mail m.revision m.to m.from 255 0 (with_post ms st)) h
-
-  drp_call : (q x : ℕ) (c : Call) (st : Run) → in_set (st.dropped_at q) x ≡ true → in_set ((call π c st).dropped_at q) x ≡ true
-  drp_call q x (open_revision c all) st h = cond_both (fits π.size c all && (ltb st.count 32 && ((st.station c).power && all_powered (members π.size all) st))) (upon_open c all st) st (λ (v : Run). in_set (v.dropped_at q) x ≡ true) (λ _. h) (λ _. h)
-  drp_call q x (close r f k) st h = let s = (st.plan r).coordinator in drp_cond q x (st.station s).power st (upon_close π r s ((st.station s).coordinators r) f k st) r s s f k _ (did_close π r s f k st ((st.station s).coordinators r) refl) h
-  drp_call q x (give_up r f k) st h = let s = (st.plan r).coordinator in drp_cond q x (st.station s).power st (upon_give_up π r s ((st.station s).coordinators r) f k st) r s s f k _ (did_give_up π r s f k st ((st.station s).coordinators r) refl) h
-  drp_call q x (chase r f k) st h = let s = (st.plan r).coordinator in drp_cond q x (st.station s).power st (upon_chase π r s ((st.station s).coordinators r) f k st) r s s f k _ (did_chase π r s f k st ((st.station s).coordinators r) refl) h
-  drp_call q x (reject r s f k) st h = drp_cond q x (ltb s π.size && (st.station s).power) st (upon_reject π r s ((st.station s).subordinates r) f k st) r s s f k _ (did_reject π r s f k st ((st.station s).subordinates r) refl) h
-  drp_call q x (inquire r s f k) st h = drp_cond q x (ltb s π.size && (st.station s).power) st (upon_inquire π r s ((st.station s).subordinates r) f k st) r s s f k _ (did_inquire π r s f k st ((st.station s).subordinates r) refl) h
-  drp_call q x (deliver i copy f k) st h =
-      cond_both (ltb i (length st.post)) _ st (λ (v : Run). in_set (v.dropped_at q) x ≡ true)
-      (λ lt. let m : Message = get_or st.post i (letter ACK 0 0 0) in
-      let p : List Message = cond copy st.post (drop_at i st.post) in
-      drp_cond q x (st.station m.to).power (with_post p st) (handed π m.mail m.revision m.to m.from f k (with_post p st)) m.revision m.to m.from f k (λ u. For π u m.mail) (did_handed π m.mail m.revision m.to m.from f k (with_post p st)) h)
-      (λ _. h)
-  drp_call q x (lose i) st h = h
-  drp_call q x (cut s k) st h = cond_both (ltb s π.size && (st.station s).power) (at_station s (cut_station k) st) st (λ (v : Run). in_set (v.dropped_at q) x ≡ true) (λ _. h) (λ _. h)
-  drp_call q x (restart s) st h = cond_both (ltb s π.size && not (st.station s).power) (at_station s (restarted_station π) st) st (λ (v : Run). in_set (v.dropped_at q) x ≡ true) (λ _. h) (λ _. h)
-  drp_call q x settle st h =
-      cond_both (all_powered (range_with_len 0 π.size) st) (settled π st).left st (λ (v : Run). in_set (v.dropped_at q) x ≡ true)
-      (λ _. keeps_settled (λ (v : Run). in_set (v.dropped_at q) x ≡ true) (drp_first q x)
-      (λ r u k. let s = (u.plan r).coordinator in drp_cond q x (u.station s).power u (nudge π r s ((u.station s).coordinators r) u) r s s 255 0 _ (did_nudge π r s u ((u.station s).coordinators r) refl) k)
-      (λ r s u _ k. drp_cond q x (u.station s).power u (upon_inquire π r s ((u.station s).subordinates r) 255 0 u) r s s 255 0 _ (did_inquire π r s 255 0 u ((u.station s).subordinates r) refl) k) st h)
-      (λ _. h)
-  drp_call q x look st h = h
-
-  pub drp_calls : (q x : ℕ) (cs : List Call) (st : Run) → in_set (st.dropped_at q) x ≡ true → in_set ((calls π cs st).dropped_at q) x ≡ true
-  drp_calls q x [] st h = h
-  drp_calls q x (c ∷ cs) st h = drp_calls q x cs (call π c st) (drp_call q x c st h)
+  pub drp_calls : (r s : ℕ) (cs : List Call) (st : Run) → Full st → in_set (st.dropped_at r) s ≡ true → in_set ((calls π cs st).dropped_at r) s ≡ true
+  drp_calls r s cs st h d =
+      calls_kept (λ (v : Run). in_set (v.dropped_at r) s ≡ true)
+      (record { stepped = λ st q x t f k P v _ _ _ _ _ e i. drp_did π 𝓛 r s st q x t f k P v e i; posted = λ _ _ _ _ _ i. i; opened = λ _ _ _ _ _ i. i; cut_off = λ _ _ _ _ _ i. i; restarted = λ _ _ _ _ _ i. i })
+      cs st h d
 
   -- the start
-  few_new : FewS up
-  few_new = record { is1 = λ r. omega arith; ds = λ r. omega arith; es = λ r. omega arith; ps = λ r. omega arith; ts = λ r. omega arith }
-
   pub full_new : Inv π 𝓛 new → Full new
   full_new i =
       record {
         inv = i;
         near = record { posts = tt; plans = λ r. omega (arith, 𝓛.some); sets = λ r t m. absurd (true≢false (sym m ∙ mem_zero t)); far = λ s l. refl };
         marked = λ s r q. elim q [ inl e ↦ absurd (true≢false (sym e)) | inr e ↦ absurd (true≢false (sym e)) ];
-        few = λ s. few_new;
+        few = λ s g r. omega (arith, left_none g);
         cap = omega arith;
         dark = λ s e r. (refl, refl);
       }
@@ -286,22 +300,22 @@ module _ (π : Presumption) (𝓛 : Laws π) where
   room_all st h s = omega (arith, room st.count (st.station s) (All-weaker _ _ (λ x k. k.0) (st.station s).stable (h.inv.safe.recs s).0) (All-weaker _ _ (λ x k. k.0) (st.station s).loose (h.inv.safe.recs s).1) (h.few s), h.cap)
 
   -- Prepared exactly where there is power, a stable p and no c or a
-  some_kinds : (k : Kind) (r : ℕ) (l : List Record) → kinds k r l ≤ 0 → has k r l ≡ false
-  some_kinds k r [] h = refl
-  some_kinds k r (x ∷ l) h = or_from _ _ (go (is k r x) refl) (some_kinds k r l (omega arith))
+  none_of : (k : Kind) (r : ℕ) (l : List Record) → sum_by (counts (sort_of k) r) l ≤ 0 → has k r l ≡ false
+  none_of k r [] h = refl
+  none_of k r (x ∷ l) h = let c = sum_by-cons (counts (sort_of k) r) x l in or_from _ _ (go (is k r x) refl) (none_of k r l (omega arith))
     where
       go : (b : Bool) → is k r x ≡ b → is k r x ≡ false
-      go true e = absurd (omega (arith, h, ap Rattle.assurance.proofs.Counts.one e))
+      go true e = let c = sum_by-cons (counts (sort_of k) r) x l in let z = (is_that k r x e).0 in absurd (grind (arith, nat_tests))
       go false e = e
 
   pub doubt_is : (st : Run) → Full st → (r s d : ℕ) → (st.station s).subordinates r ≡ Prepared d → ((st.station s).power ≡ true) × Got kp r (st.station s) × No kc r (st.station s) × No ka r (st.station s)
   doubt_is st h r s d e =
-      let t = (h.few s).ts r in
-      let w : Rattle.assurance.proofs.Counts.outcome_left ((st.station s).subordinates r) ≡ 1 = ap Rattle.assurance.proofs.Counts.outcome_left e in (
+      let t = h.few s ended r in
+      let w : left ended r (st.station s) ≡ 1 = ap (left_of ended ((st.station s).coordinators r)) e in (
         elim (cases_Bool (st.station s).power) [ inl i ↦ i | inr i ↦ absurd (grind (arith, e, (h.dark s i r).1)) ],
         (subst (λ v. SubLegal π (world st) s r v) e (h.inv.safe.subs s r)).2,
-        (some_kinds kc r (st.station s).stable (omega arith), some_kinds kc r (st.station s).loose (omega arith)),
-        (some_kinds ka r (st.station s).stable (omega arith), some_kinds ka r (st.station s).loose (omega arith)),
+        (none_of kc r (st.station s).stable (omega arith), none_of kc r (st.station s).loose (omega arith)),
+        (none_of ka r (st.station s).stable (omega arith), none_of ka r (st.station s).loose (omega arith)),
       )
 
   pub is_doubt : (st : Run) → Full st → (r s : ℕ) → (st.station s).power ≡ true → Got kp r (st.station s) → No kc r (st.station s) → No ka r (st.station s) → (d : ℕ) × ((st.station s).subordinates r ≡ Prepared d)

@@ -1,36 +1,32 @@
 -- What holds of the ideal run, said of a run.
 use Rattle.std.proofs.Common.{◌≡◌, ℕ, zero, suc, ◌+◌, ◌*◌, ◌^◌, ◌<◌, ◌≤◌, Bool, true, false, cond, not, ◌&&◌, eqb, ltb, leb, ◌↔◌, List, [], ◌∷◌, map, length, sym, refl, ap, ◌∙◌, subst, inl, inr, mul-le-mul_right, arith}
-use lib.ListN.{length-map}
-use Rattle.std.proofs.lemmas.Bool.Decides.{nat_tests}
-use Rattle.std.proofs.lemmas.Bool.{cond-true, cond-false, cases_lt, eqb-true, and_parts}
-use Rattle.std.proofs.lemmas.List.{get_or_past}
+use Rattle.std.proofs.lemmas.Bool.{cond-true, cond-false, cases_lt, eqb-true, and_parts, ltb-true, leb-true, le-ltb, lt-ltb}
+use Rattle.std.proofs.lemmas.List.{get_or_past, nil_from_length}
 use Rattle.std.specs.List.{AllByRecursion, range_with_len}
 use Rattle.journal.specs.Meaning.{Section, section, held, no_section}
 use Rattle.journal.specs.declared.records.Kind.{Kind}
 use Rattle.journal.specs.declared.records.Kind.TheVariants as kind
 use Rattle.presumption.specs.Answers.{Answers, Lawful}
-use Rattle.station.specs.declared.subordinate.SubordinateEntry.TheVariants as subordinate
 use Rattle.run.specs.State.{State, fits}
 use Rattle.stations.specs.Stations.{station_at, no_station, power_at}
 use Rattle.stations.specs.declared.Station.{Station}
-use Rattle.station.specs.declared.subordinate.SubordinateEntry.{SubordinateEntry}
 use Rattle.assurance.proofs.Ideal as ideal
 use Rattle.station.specs.Sets.{empty}
 use Rattle.assurance.proofs.Sets.{mem_below}
 use Rattle.assurance.proofs.Every.{doubt_is, is_doubt, Full}
 use Rattle.assurance.proofs.Lasting.{world}
 use Rattle.assurance.proofs.SafeRules.{has_legal}
-use Rattle.assurance.proofs.View.{true_lt, kind_as, outcome_as, record_as, message_as, co_as, sub_as, station_as, view}
+use Rattle.assurance.proofs.View.{co_as, station_as, view}
 use lib.ListN.{get_or-replicate, length-replicate}
 use Rattle.std.proofs.ByRecursion.{All-weaker}
 use Rattle.run.specs.Answers.{answered}
 use Rattle.run.specs.Calls.{reply, refuse, coordinator_of}
 use Rattle.assurance.specs.declared.calls.Call.{Call}
 use Rattle.assurance.specs.declared.calls.Call.TheVariants.{Open, Close, Settle}
-use Rattle.assurance.specs.Lists.{called, after_calls}
+use Rattle.assurance.specs.Lists.{lasting, called, after_calls}
 use Rattle.run.specs.Settling.{settled}
 use Rattle.run.specs.State.{ready, all_ready, fresh}
-use Rattle.stations.specs.Stations.{no_entries, entries_for, subordinate_at, blank, all_power}
+use Rattle.stations.specs.Stations.{no_entries, entries_for, blank, all_power}
 use Rattle.stations.specs.declared.Entries.{Entries}
 use Rattle.station.specs.Sets.{below}
 use Rattle.assurance.proofs.Every.{full_new}
@@ -48,21 +44,7 @@ use Rattle.assurance.specs.Outcomes.{InDoubt, Undecided, Dropped, Lacks, AllPowe
 
 fits_small : (n c a : ℕ) → ideal.fits n c a ≡ true → a < 2 ^ n
 unfolding ideal.fits
-fits_small n c a e = true_lt _ _ (and_parts (ltb a (2 ^ n)) (not (eqb a 0)) (and_parts (ltb c n) (ltb a (2 ^ n) && not (eqb a 0)) e).1).0
-
--- a journal that is ready
-lone : {X : Type 0} (l : List X) → length l ≡ 0 → l ≡ []
-lone [] e = refl
-lone (x ∷ l) e = absurd (omega arith)
-
-none_mapped : {X Y : Type 0} (f : X → Y) (l : List X) → map f l ≡ [] → l ≡ []
-none_mapped f l e = lone l (sym (length-map l f) ∙ ap length e)
-
-eqb_is : (a b : ℕ) → eqb a b ≡ true → a ≡ b
-eqb_is a b e = eqb-true a b e
-
-leb_is : (a b : ℕ) → leb a b ≡ true → a ≤ b
-leb_is a b e = grind (arith, nat_tests)
+fits_small n c a e = ltb-true _ _ (and_parts (ltb a (2 ^ n)) (not (eqb a 0)) (and_parts (ltb c n) (ltb a (2 ^ n) && not (eqb a 0)) e).1).0
 
 pub record Blank (p : Section) : Type 0 where
   pub stable : p.stable ≡ []
@@ -72,7 +54,7 @@ ready_blank : (p : Section) → ready p ≡ true → Blank p × (160 ≤ p.capac
 ready_blank p e =
     let a = and_parts (leb 160 p.capacity) (eqb (length p.stable) 0 && eqb (length p.unforced) 0) e in
     let b = and_parts (eqb (length p.stable) 0) (eqb (length p.unforced) 0) a.1 in
-    (record { stable = lone p.stable (eqb_is _ _ b.0); unforced = lone p.unforced (eqb_is _ _ b.1) }, leb_is _ _ a.0)
+    (record { stable = nil_from_length p.stable (eqb-true _ _ b.0); unforced = nil_from_length p.unforced (eqb-true _ _ b.1) }, leb-true _ _ a.0)
 
 ready_at : (m : List Section) (s : ℕ) → all_ready m ≡ true → s < length m → Blank (section m s) × (160 ≤ (section m s).capacity)
 unfolding all_ready
@@ -91,9 +73,9 @@ blank_co : (r : ℕ) → co_as (entries_for r (blank true)).coordinator ≡ idea
 unfolding blank
 blank_co r = ap (λ (z : Entries). co_as z.coordinator) (same_entry 0 32 r no_entries)
 
-blank_sub : (r : ℕ) → sub_as (entries_for r (blank true)).subordinate ≡ ideal.idle
+blank_sub : (r : ℕ) → (entries_for r (blank true)).subordinate ≡ ideal.idle
 unfolding blank
-blank_sub r = ap (λ (z : Entries). sub_as z.subordinate) (same_entry 0 32 r no_entries)
+blank_sub r = ap (λ (z : Entries). z.subordinate) (same_entry 0 32 r no_entries)
 
 blank_power : (blank true).power ≡ true
 unfolding blank
@@ -122,7 +104,7 @@ module _ (π : Answers) (𝓗 : Lawful π) (m : List Section) (ok : fits m ≡ t
   sizes =
       let a = and_parts (leb 2 (length m)) (leb (length m) 8 && all_ready m) ok in
       let b = and_parts (leb (length m) 8) (all_ready m) a.1 in
-      (leb_is _ _ a.0, leb_is _ _ b.0, b.1)
+      (leb-true _ _ a.0, leb-true _ _ b.0, b.1)
 
   abbrev Q : ideal.Presumption
   Q = presumes π n
@@ -139,16 +121,13 @@ module _ (π : Answers) (𝓗 : Lawful π) (m : List Section) (ok : fits m ≡ t
   fresh_station : (s : ℕ) → station_as n s (section m s) (station_at (fresh m).stations s) ≡ told.up
   fresh_station s =
       elim (cases_lt s n) [
-        | inl l ↦ ap (station_as n s (section m s)) (one_station s l) ∙ (λ i. record { power = on (ltb s n) i; stable = map record_as ((blank_at m s sizes.2).stable i); loose = map record_as ((blank_at m s sizes.2).unforced i); coordinators = λ r. blank_co r i; subordinates = λ r. blank_sub r i })
-        | inr l ↦ ap (station_as n s (section m s)) (get_or_past (fresh m).stations s no_station (omega (arith, length-replicate n (blank true)))) ∙ (λ i. record { power = cond-false (ltb s n) false true (off l) i; stable = map record_as ((blank_at m s sizes.2).stable i); loose = map record_as ((blank_at m s sizes.2).unforced i); coordinators = λ r. ideal.none; subordinates = λ r. ideal.idle })
+        | inl l ↦ ap (station_as n s (section m s)) (one_station s l) ∙ (λ i. record { power = on (ltb s n) i; stable = ((blank_at m s sizes.2).stable i); loose = ((blank_at m s sizes.2).unforced i); coordinators = λ r. blank_co r i; subordinates = λ r. blank_sub r i })
+        | inr l ↦ ap (station_as n s (section m s)) (get_or_past (fresh m).stations s no_station (omega (arith, length-replicate n (blank true)))) ∙ (λ i. record { power = cond-false (ltb s n) false true (le-ltb s n l) i; stable = ((blank_at m s sizes.2).stable i); loose = ((blank_at m s sizes.2).unforced i); coordinators = λ r. ideal.none; subordinates = λ r. ideal.idle })
       ]
     where
       on : (b : Bool) → cond b (blank true).power true ≡ true
       on true = blank_power
       on false = refl
-
-      off : n ≤ s → ltb s n ≡ false
-      off l = grind (arith, nat_tests)
 
   fresh_view : view n (fresh m) ≡ told.new
   fresh_view = λ i. record { station = λ s. fresh_station s i; post = []; plan = λ r. record { coordinator = 0; names = 0 }; count = 0; installed_at = λ r. 0; dropped_at = λ r. 0 }
@@ -193,16 +172,16 @@ module _ (π : Answers) (𝓗 : Lawful π) (m : List Section) (ok : fits m ≡ t
         )
 
     room : (s : ℕ) → held (section st.store.journal s) ≤ 160
-    room s = omega (arith, known.room s, length-map (section st.store.journal s).stable record_as, length-map (section st.store.journal s).unforced record_as)
+    room s = known.room s
 
     quiet : (v : State) → told.Quiet (view n v) → Quiet v
     unfolding ideal.in_set
     quiet v k =
         record {
-          empty = none_mapped message_as v.store.post k.posted;
-          no_doubt = λ r s d. k.doubt r s d.0 (ap sub_as d.1);
+          empty = k.posted;
+          no_doubt = λ r s d. k.doubt r s d.0 d.1;
           no_vote = λ r s x y e. k.voting r s x.bits y.bits (ap co_as e);
-          none_awaited = λ r s o w e. k.telling r s (outcome_as o) w.bits (ap co_as e);
+          none_awaited = λ r s o w e. k.telling r s o w.bits (ap co_as e);
           installed = λ r s c d. k.everywhere r s (has_as kind.Commit r (section v.store.journal (coordinator_of r v)).stable ∙ c) d;
         }
 
@@ -214,8 +193,7 @@ module _ (π : Answers) (𝓗 : Lawful π) (m : List Section) (ok : fits m ≡ t
         let d = (settled_view π 𝓗 n sizes.0 sizes.1 st g).made in
         let within : (settled π st).deliveries ≤ (2 * length st.stations + 2) * length st.store.post + 5 * length st.stations * length st.store.log =
         subst (λ (x : ℕ). (settled π st).deliveries ≤ (2 * x + 2) * length st.store.post + 5 * x * length st.store.log) (sym long)
-        (subst (λ (x : ℕ). (settled π st).deliveries ≤ (2 * n + 2) * x + 5 * n * length st.store.log) (length-map st.store.post message_as)
-        (subst (λ (x : ℕ). x ≤ (2 * n + 2) * length (view n st).post + 5 * n * length st.store.log) (sym d) k.1)) in
+        (subst (λ (x : ℕ). x ≤ (2 * n + 2) * length (view n st).post + 5 * n * length st.store.log) (sym d) k.1) in
         record {
           quiet = quiet (called π Settle st).state (subst told.Quiet (sym e) k.0);
           answers = λ i. (cond (g.shape.fit i) (cond (all_powered st.stations (range_with_len 0 (length st.stations)) (All-weaker _ _ (λ s l. on s l) (range_with_len 0 (length st.stations)) (counting_below 0 (length st.stations) (length st.stations) (omega arith))) i) (reply (answered (settled π st).deliveries) (settled π st).state) (refuse 4 st)) (refuse 1 st)).answer;
@@ -237,23 +215,18 @@ module _ (π : Answers) (𝓗 : Lawful π) (m : List Section) (ok : fits m ≡ t
     near : (r s : ℕ) → ideal.has ideal.kp r (V.station s).stable ≡ true → s < n
     near r s e = g.full.near.sets r s (has_legal Q (world V) s ideal.kp r (V.station s).stable (g.full.inv.safe.recs s).0 e).1.1
 
-    back : (k : Kind) (r s : ℕ) → Lacks k st r s → (ideal.has (kind_as k) r (V.station s).stable ≡ false) × (ideal.has (kind_as k) r (V.station s).loose ≡ false)
+    back : (k : Kind) (r s : ℕ) → Lacks k st r s → (ideal.has k r (V.station s).stable ≡ false) × (ideal.has k r (V.station s).loose ≡ false)
     back k r s h = (has_as k r (section st.store.journal s).stable ∙ h.0, has_as k r (section st.store.journal s).unforced ∙ h.1)
 
-    forth : (k : Kind) (r s : ℕ) → (ideal.has (kind_as k) r (V.station s).stable ≡ false) × (ideal.has (kind_as k) r (V.station s).loose ≡ false) → Lacks k st r s
+    forth : (k : Kind) (r s : ℕ) → (ideal.has k r (V.station s).stable ≡ false) × (ideal.has k r (V.station s).loose ≡ false) → Lacks k st r s
     forth k r s h = (sym (has_as k r (section st.store.journal s).stable) ∙ h.0, sym (has_as k r (section st.store.journal s).unforced) ∙ h.1)
 
-    prepared_is : (e : SubordinateEntry) (d : ℕ) → sub_as e ≡ ideal.Prepared d → e ≡ subordinate.Prepared d
-    prepared_is subordinate.None d q = let z : ◌≡◌ {A = ℕ} 0 1 = cc in absurd (omega arith)
-    prepared_is (subordinate.Active c) d q = let z : ◌≡◌ {A = ℕ} 0 1 = cc in absurd (omega arith)
-    prepared_is (subordinate.Prepared c) d q = cc
-
     powered_is : (s : ℕ) → s < n → (V.station s).power ≡ power_at st.stations s
-    powered_is s l = cond-true (ltb s n) _ _ (grind (arith, nat_tests))
+    powered_is s l = cond-true (ltb s n) _ _ (lt-ltb s n l)
 
     doubt : (r s : ℕ) → InDoubt st r s ↔ Undecided st r s
     doubt r s = (
-      λ d. let k = doubt_is Q 𝓛 V g.full r s d.0 (ap sub_as d.1) in
+      λ d. let k = doubt_is Q 𝓛 V g.full r s d.0 d.1 in
           record {
             powered = sym (powered_is s (near r s k.1)) ∙ k.0;
             prepared = sym (has_as kind.Prepared r (section st.store.journal s).stable) ∙ k.1;
@@ -262,7 +235,7 @@ module _ (π : Answers) (𝓗 : Lawful π) (m : List Section) (ok : fits m ≡ t
           },
       λ u. let p : ideal.has ideal.kp r (V.station s).stable ≡ true = has_as kind.Prepared r (section st.store.journal s).stable ∙ u.prepared in
           let k = is_doubt Q 𝓛 V g.full r s (powered_is s (near r s p) ∙ u.powered) p (back kind.Committed r s u.no_commit) (back kind.Aborted r s u.no_abort) in
-          (k.0, prepared_is (subordinate_at st.stations s r) k.0 k.1),
+          (k.0, k.1),
     )
 
     sound : Sound π st
@@ -276,7 +249,7 @@ module _ (π : Answers) (𝓗 : Lawful π) (m : List Section) (ok : fits m ≡ t
 
   pub four_each : FourEach π m
   four_each c x e =
-      let two_calls = Open c x ∷ Close 0 255 0 ∷ [] in
+      let two_calls = Open c x ∷ Close 0 lasting ∷ [] in
       let f : ideal.fits n c x.bits ≡ true = sym (fits_as n c x) ∙ subst (λ (k : ℕ). (ltb c k && (not (empty x) && below x k)) ≡ true) (length-replicate n (blank true)) e in
       let q = calls_view π 𝓗 n sizes.0 sizes.1 two_calls (fresh m) fresh_good in
       let l = map (call_as π 𝓗 n sizes.0 sizes.1) two_calls in

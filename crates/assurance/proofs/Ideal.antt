@@ -1,7 +1,22 @@
 -- The ideal run: stations by number, entries by revision, and writes that always succeed.
-use Rattle.std.proofs.Common.{ℕ, zero, suc, ◌+◌, ◌*◌, ◌/◌, ◌%◌, ◌^◌, Bool, true, false, cond, not, ◌&&◌, ◌||◌, eqb, ltb, List, [], ◌∷◌, ◌++◌, length, get_or, take, filter}
+use Rattle.std.proofs.Common.{ℕ, zero, suc, ◌+◌, ◌/◌, ◌%◌, ◌^◌, Bool, true, false, cond, not, ◌&&◌, ◌||◌, eqb, ltb, List, [], ◌∷◌, ◌++◌, length, get_or, take, filter, drop}
 use Rattle.std.specs.List.{range_with_len}
 use lib.Bits.{bit_or, bit_xor}
+use Rattle.station.specs.Recovery.{is_of}
+pub use Rattle.journal.specs.declared.records.Kind.{Kind}
+pub use Rattle.journal.specs.declared.records.Kind.TheVariants.{Opening as kI, Commit as kC, Abort as kA, End as kE, Prepared as kp, Committed as kc, Aborted as ka}
+pub use Rattle.journal.specs.declared.records.Record.{Record}
+pub use Rattle.presumption.specs.declared.outcome.Outcome.{Outcome}
+pub use Rattle.presumption.specs.declared.outcome.Outcome.TheVariants.{Commit as commit, Abort as abort}
+pub use Rattle.presumption.specs.declared.outcome.Logging.{Logging}
+pub use Rattle.presumption.specs.declared.outcome.Logging.TheVariants.{NotAtAll as not_at_all, Unforced as unforced, Forced as forced}
+pub use Rattle.station.specs.declared.subordinate.SubordinateEntry.{SubordinateEntry}
+pub use Rattle.station.specs.declared.subordinate.SubordinateEntry.TheVariants.{None as idle, Active, Prepared}
+pub use Rattle.station.specs.declared.messages.MessageKind.{MessageKind}
+pub use Rattle.station.specs.declared.messages.MessageKind.TheVariants.{Prepare as PREPARE, Yes as YES, No as NO, Commit as COMMIT, Abort as ABORT, Ack as ACK, Inquiry as INQUIRY}
+pub use Rattle.station.specs.declared.messages.Message.{Message}
+pub use Rattle.station.specs.Acts.{Act, write, force, post as send, mark_installed as installed, mark_dropped as dropped, line, letter, telling as outcome_mail, outcome_kind, mark, logged}
+pub use Rattle.run.specs.Settling.{weight as weigh, load}
 
 -- a function with another value at one place
 abbrev pub updated : {X : Type 0} → (ℕ → X) → ℕ → X → ℕ → X
@@ -20,27 +35,9 @@ without_station m s = cond (in_set m s) (bit_xor m (2 ^ s)) m
 unfoldable pub members : ℕ → ℕ → List ℕ
 members n m = filter (in_set m) (range_with_len 0 n)
 
--- records: I, C, A, E of the coordinator, p, c, a of the subordinate
-pub data Kind : Type 0 where
-  kI kC kA kE kp kc ka : Kind
-
-abbrev pub code : Kind → ℕ
-code kI = 0
-code kC = 1
-code kA = 2
-code kE = 3
-code kp = 4
-code kc = 5
-code ka = 6
-
-pub record Record : Type 0 where
-  pub kind : Kind
-  pub revision : ℕ
-  pub argument : ℕ
-
 -- a record of that kind for that revision, in a list, and its argument
 abbrev pub is : Kind → ℕ → Record → Bool
-is k r x = eqb (code x.kind) (code k) && eqb x.revision r
+is k r x = is_of k r x
 
 abbrev pub has : Kind → ℕ → List Record → Bool
 has k r [] = false
@@ -50,20 +47,12 @@ abbrev pub argument_of : Kind → ℕ → List Record → ℕ
 argument_of k r [] = 0
 argument_of k r (x ∷ xs) = cond (is k r x) x.argument (argument_of k r xs)
 
--- entries of the coordinator and of the subordinate
-pub data Outcome : Type 0 where
-  commit abort : Outcome
-
+-- entries of the coordinator, with sets as numbers
 pub data CoordinatorEntry : Type 0 where
   none : CoordinatorEntry
   Open : ℕ → CoordinatorEntry
   Collecting : ℕ → ℕ → CoordinatorEntry
   Announcing : Outcome → ℕ → CoordinatorEntry
-
-pub data SubordinateEntry : Type 0 where
-  idle : SubordinateEntry
-  Active : ℕ → SubordinateEntry
-  Prepared : ℕ → SubordinateEntry
 
 -- a station: loose records are not forced yet
 pub record Station : Type 0 where
@@ -72,16 +61,6 @@ pub record Station : Type 0 where
   pub loose : List Record
   pub coordinators : ℕ → CoordinatorEntry
   pub subordinates : ℕ → SubordinateEntry
-
--- messages
-pub data MessageKind : Type 0 where
-  PREPARE YES NO COMMIT ABORT ACK INQUIRY : MessageKind
-
-pub record Message : Type 0 where
-  pub mail : MessageKind
-  pub revision : ℕ
-  pub from : ℕ
-  pub to : ℕ
 
 -- a revision as it was opened
 pub record Plan : Type 0 where
@@ -98,9 +77,6 @@ pub record Run : Type 0 where
   pub dropped_at : ℕ → ℕ
 
 -- what stations presume, each for itself
-pub data Logging : Type 0 where
-  not_at_all unforced forced : Logging
-
 pub record Presumption : Type 0 where
   pub size : ℕ
   pub presumed : ℕ → Outcome
@@ -145,13 +121,6 @@ abbrev pub with_post : List Message → Run → Run
 with_post p st = record { station = st.station; post = p; plan = st.plan; count = st.count; installed_at = st.installed_at; dropped_at = st.dropped_at }
 
 -- acts of a station, one and many
-pub data Act : Type 0 where
-  write : Record → Act
-  force : Act
-  send : Message → Act
-  installed : ℕ → Act
-  dropped : ℕ → Act
-
 abbrev pub act_done : ℕ → Act → Run → Run
 act_done s (write x) st = at_station s (written_station x) st
 act_done s force st = at_station s forced_station st
@@ -179,38 +148,14 @@ abbrev pub step : ℕ → List Act → Turn → ℕ → ℕ → Run → Run
 step s acts t fuse kept st =
     cond (ltb fuse (length acts)) (at_station s (cut_station kept) (acts_done s (take fuse acts) st)) (turn s t (acts_done s acts st))
 
--- records, letters, and letters to many
-abbrev pub line : Kind → ℕ → ℕ → Record
-line k r a = record { kind = k; revision = r; argument = a }
-
-abbrev pub letter : MessageKind → ℕ → ℕ → ℕ → Message
-letter k r s t = record { mail = k; revision = r; from = s; to = t }
-
+-- letters to many
 abbrev pub send_each : MessageKind → ℕ → ℕ → List ℕ → List Act
 send_each k r s [] = []
 send_each k r s (t ∷ ts) = send (letter k r s t) ∷ send_each k r s ts
 
-abbrev pub outcome_mail : Outcome → MessageKind
-outcome_mail commit = COMMIT
-outcome_mail abort = ABORT
-
-abbrev pub outcome_kind : Outcome → Kind
-outcome_kind commit = kc
-outcome_kind abort = ka
-
-abbrev pub mark : Outcome → ℕ → Act
-mark commit r = installed r
-mark abort r = dropped r
-
 -- an entry that awaits somebody, or none
 abbrev pub await : Outcome → ℕ → CoordinatorEntry
 await o w = cond (eqb w 0) none (Announcing o w)
-
--- an abort is logged as the presumption says
-abbrev pub logged : Logging → Record → List Act
-logged not_at_all x = []
-logged unforced x = write x ∷ []
-logged forced x = write x ∷ (force ∷ [])
 
 module _ (π : Presumption) where
   -- the acts of each kind of step
@@ -250,20 +195,16 @@ module _ (π : Presumption) where
   upon_prepare r s t idle f k st = step s (send (letter NO r s t) ∷ []) stay f k st
 
   abbrev pub upon_yes : ℕ → ℕ → ℕ → CoordinatorEntry → ℕ → ℕ → Run → Run
-  upon_yes r s t none f k st = st
-  upon_yes r s t (Open all) f k st = st
-  upon_yes r s t (Announcing o w) f k st = st
   upon_yes r s t (Collecting all ys) f k st =
       cond (in_set all t) (cond (eqb (with_station ys t) all) (step s (commit_acts r s all) (to_coordinator r (await commit (π.ackers commit all))) f k st) (at_station s (set_coordinator r (Collecting all (with_station ys t))) st)) st
+  upon_yes r s t e f k st = st
 
   abbrev pub decide_abort : ℕ → ℕ → ℕ → ℕ → ℕ → ℕ → Run → Run
   decide_abort r s all d f k st = step s (abort_acts r s all d) (to_coordinator r (await abort (π.ackers abort d))) f k st
 
   abbrev pub upon_no : ℕ → ℕ → ℕ → CoordinatorEntry → ℕ → ℕ → Run → Run
-  upon_no r s t none f k st = st
-  upon_no r s t (Open all) f k st = st
-  upon_no r s t (Announcing o w) f k st = st
   upon_no r s t (Collecting all ys) f k st = cond (in_set all t) (decide_abort r s all (without_station all t) f k st) st
+  upon_no r s t e f k st = st
 
   abbrev pub upon_outcome : Outcome → ℕ → ℕ → ℕ → SubordinateEntry → ℕ → ℕ → Run → Run
   upon_outcome o r s t idle f k st = step s (ack_if (π.acks o s) r s t) stay f k st
@@ -272,46 +213,36 @@ module _ (π : Presumption) where
   upon_outcome o r s t (Prepared c) f k st = step s (enforce_acts o r s c) (to_subordinate r idle) f k st
 
   abbrev pub upon_ack : ℕ → ℕ → ℕ → CoordinatorEntry → ℕ → ℕ → Run → Run
-  upon_ack r s t none f k st = st
-  upon_ack r s t (Open all) f k st = st
-  upon_ack r s t (Collecting all ys) f k st = st
   upon_ack r s t (Announcing o w) f k st =
       cond (in_set w t) (cond (eqb (without_station w t) 0) (step s (write (line kE r 0) ∷ []) (to_coordinator r none) f k st) (at_station s (set_coordinator r (Announcing o (without_station w t))) st)) st
+  upon_ack r s t e f k st = st
 
   abbrev pub upon_inquiry : ℕ → ℕ → ℕ → CoordinatorEntry → ℕ → ℕ → Run → Run
   upon_inquiry r s t none f k st = step s (send (letter (outcome_mail (π.presumed t)) r s t) ∷ []) stay f k st
-  upon_inquiry r s t (Open all) f k st = st
-  upon_inquiry r s t (Collecting all ys) f k st = st
   upon_inquiry r s t (Announcing o w) f k st = step s (send (letter (outcome_mail o) r s t) ∷ []) stay f k st
+  upon_inquiry r s t e f k st = st
 
   -- what a station does upon each call
   abbrev pub upon_close : ℕ → ℕ → CoordinatorEntry → ℕ → ℕ → Run → Run
-  upon_close r s none f k st = st
   upon_close r s (Open all) f k st = step s (close_acts r s all) (to_coordinator r (Collecting all 0)) f k st
-  upon_close r s (Collecting all ys) f k st = st
-  upon_close r s (Announcing o w) f k st = st
+  upon_close r s e f k st = st
 
   abbrev pub upon_give_up : ℕ → ℕ → CoordinatorEntry → ℕ → ℕ → Run → Run
-  upon_give_up r s none f k st = st
   upon_give_up r s (Open all) f k st = decide_abort r s all all f k st
   upon_give_up r s (Collecting all ys) f k st = decide_abort r s all all f k st
-  upon_give_up r s (Announcing o w) f k st = st
+  upon_give_up r s e f k st = st
 
   abbrev pub upon_reject : ℕ → ℕ → SubordinateEntry → ℕ → ℕ → Run → Run
-  upon_reject r s idle f k st = st
-  upon_reject r s (Prepared c) f k st = st
   upon_reject r s (Active c) f k st = step s (reject_acts r s c) (to_subordinate r idle) f k st
+  upon_reject r s e f k st = st
 
   abbrev pub upon_chase : ℕ → ℕ → CoordinatorEntry → ℕ → ℕ → Run → Run
-  upon_chase r s none f k st = st
-  upon_chase r s (Open all) f k st = st
-  upon_chase r s (Collecting all ys) f k st = st
   upon_chase r s (Announcing o w) f k st = step s (send_each (outcome_mail o) r s (members π.size w)) stay f k st
+  upon_chase r s e f k st = st
 
   abbrev pub upon_inquire : ℕ → ℕ → SubordinateEntry → ℕ → ℕ → Run → Run
-  upon_inquire r s idle f k st = st
-  upon_inquire r s (Active c) f k st = st
   upon_inquire r s (Prepared c) f k st = step s (send (letter INQUIRY r s c) ∷ []) stay f k st
+  upon_inquire r s e f k st = st
 
   -- a message handed to station s from station t
   abbrev pub handed : MessageKind → ℕ → ℕ → ℕ → ℕ → ℕ → Run → Run
@@ -361,9 +292,7 @@ upon_open c all st =
 
 -- a list without the element at a place
 abbrev pub drop_at : {X : Type 0} → ℕ → List X → List X
-drop_at n [] = []
-drop_at zero (x ∷ xs) = xs
-drop_at (suc n) (x ∷ xs) = x ∷ drop_at n xs
+drop_at n xs = take n xs ++ drop (n + 1) xs
 
 -- calls
 pub data Call : Type 0 where
@@ -381,27 +310,13 @@ pub record Made : Type 0 where
   pub left : Run
   pub made : ℕ
 
--- what waiting messages weigh among n stations
-abbrev pub weigh : ℕ → MessageKind → ℕ
-weigh n PREPARE = 2 + 2 * n
-weigh n YES = 1 + 2 * n
-weigh n NO = 1 + 2 * n
-weigh n COMMIT = 2
-weigh n ABORT = 2
-weigh n ACK = 1
-weigh n INQUIRY = 3
-
-abbrev pub load : ℕ → List Message → ℕ
-load n [] = 0
-load n (m ∷ l) = weigh n m.mail + load n l
-
 abbrev pub all_powered : List ℕ → Run → Bool
 all_powered [] st = true
 all_powered (s ∷ l) st = (st.station s).power && all_powered l st
 
 module _ (π : Presumption) where
   abbrev pub hand_first : Message → Run → Run
-  hand_first m st = cond (st.station m.to).power (handed π m.mail m.revision m.to m.from 255 0 st) st
+  hand_first m st = cond (st.station m.receiver).power (handed π m.kind m.revision m.receiver m.sender 255 0 st) st
 
   -- deliver the first message until none waits
   unfoldable pub drain : ℕ → List Message → Run → ℕ → Made
@@ -413,10 +328,9 @@ module _ (π : Presumption) where
   emptied st k = drain (load π.size st.post) st.post st k
 
   abbrev pub nudge : ℕ → ℕ → CoordinatorEntry → Run → Run
-  nudge r s none st = st
-  nudge r s (Open all) st = st
   nudge r s (Collecting all ys) st = upon_give_up π r s (Collecting all ys) 255 0 st
   nudge r s (Announcing o w) st = upon_chase π r s (Announcing o w) 255 0 st
+  nudge r s e st = st
 
   -- give up if Collecting, chase if Announcing, at the coordinator
   abbrev pub urged : ℕ → Run → Run
@@ -454,9 +368,9 @@ call π (reject r s f k) st = cond (ltb s π.size && (st.station s).power) (upon
 call π (inquire r s f k) st = cond (ltb s π.size && (st.station s).power) (upon_inquire π r s ((st.station s).subordinates r) f k st) st
 call π (deliver i copy f k) st =
     cond (ltb i (length st.post))
-    (let m = get_or st.post i (letter ACK 0 0 0) in
+    (let m = get_or st.post i (letter PREPARE 0 0 0) in
     let u = with_post (cond copy st.post (drop_at i st.post)) st in
-    cond (u.station m.to).power (handed π m.mail m.revision m.to m.from f k u) u)
+    cond (u.station m.receiver).power (handed π m.kind m.revision m.receiver m.sender f k u) u)
     st
 call π (lose i) st = with_post (drop_at i st.post) st
 call π (cut s k) st = cond (ltb s π.size && (st.station s).power) (at_station s (cut_station k) st) st

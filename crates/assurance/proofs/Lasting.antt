@@ -25,26 +25,21 @@ abbrev pub No : Kind → ℕ → Station → Type 0
 No k r x = (has k r x.stable ≡ false) × (has k r x.loose ≡ false)
 
 abbrev pub Past : CoordinatorEntry → Type 0
-Past none = Unit {0}
 Past (Open a) = ⊥
 Past (Collecting a y) = ⊥
-Past (Announcing o w) = Unit {0}
+Past e = Unit {0}
 
 abbrev pub Shut : CoordinatorEntry → Type 0
-Shut none = Unit {0}
 Shut (Open a) = ⊥
-Shut (Collecting a y) = Unit {0}
-Shut (Announcing o w) = Unit {0}
+Shut e = Unit {0}
 
 abbrev pub Inactive : SubordinateEntry → Type 0
-Inactive idle = Unit {0}
 Inactive (Active c) = ⊥
-Inactive (Prepared c) = Unit {0}
+Inactive e = Unit {0}
 
 abbrev pub Idle : SubordinateEntry → Type 0
 Idle idle = Unit {0}
-Idle (Active c) = ⊥
-Idle (Prepared c) = ⊥
+Idle e = ⊥
 
 abbrev pub Doom : ℕ → Station → Type 0
 Doom r x = No kC r x × Past (x.coordinators r)
@@ -115,7 +110,7 @@ module _ (π : Presumption) where
   LegalOf w INQUIRY r s t = (t ≡ (w.plan r).coordinator) × Got kp r (w.station s)
 
   abbrev pub Legal : World → Message → Type 0
-  Legal w m = (m.revision < w.count) × LegalOf w m.mail m.revision m.from m.to
+  Legal w m = (m.revision < w.count) × LegalOf w m.kind m.revision m.sender m.receiver
 
   abbrev pub RecOf : World → ℕ → Kind → ℕ → ℕ → Type 0
   RecOf w s kI r a = (s ≡ (w.plan r).coordinator) × (a ≡ (w.plan r).names)
@@ -220,7 +215,7 @@ module _ (π : Presumption) where
     pub safe_local : (post : List Message) (installed_at dropped_at : ℕ → ℕ) (s : ℕ) → Safe w post installed_at dropped_at → ((t : ℕ) → (s ≡ t) ⊎ (v.station t ≡ w.station t)) → (AllByRecursion (RecLegal v s) (v.station s).stable × AllByRecursion (RecLegal v s) (v.station s).loose) → ((r : ℕ) → CoLegal v s r ((v.station s).coordinators r)) → ((r : ℕ) → SubLegal v s r ((v.station s).subordinates r)) → Safe v post installed_at dropped_at
     safe_local post installed_at dropped_at s h other rs cs ss =
         record {
-          msgs = All-weaker _ _ (λ m k. (known_grows m.revision k.0, legal_grows m.mail m.revision m.from m.to k.0 k.1)) post h.msgs;
+          msgs = All-weaker _ _ (λ m k. (known_grows m.revision k.0, legal_grows m.kind m.revision m.sender m.receiver k.0 k.1)) post h.msgs;
           installs = λ r t m. (known_grows r (h.installs r t m).0, comm_grows r (h.installs r t m).0 (h.installs r t m).1);
           drops = λ r t m. (known_grows r (h.drops r t m).0, abort_grows r (h.drops r t m).0 (h.drops r t m).1);
           recs = λ t. recs t (other t);

@@ -2,13 +2,13 @@ mod Ideal
 mod Claims
 mod Sets
 mod Lasting
+mod Local
 mod SafeActs
 mod SafeSteps
 mod SafeRules
 mod SafeOpen
 mod SafeCalls
 mod Tidy
-mod TidyRules
 mod Invariant
 mod Rules
 mod Ranges

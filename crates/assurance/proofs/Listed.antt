@@ -1,6 +1,6 @@
 -- Settling does to the view what the ideal run's settling does, delivery by delivery.
 use Rattle.std.proofs.Common.{◌≡◌, ℕ, zero, suc, ◌+◌, ◌<◌, ◌≤◌, Bool, true, false, cond, ◌&&◌, ltb, List, [], ◌∷◌, map, length, get_or, sym, refl, ap, ◌∙◌, subst, arith}
-use Rattle.std.proofs.lemmas.Bool.{cond-true, true≢false}
+use Rattle.std.proofs.lemmas.Bool.{cond-true, true≢false, lt-ltb}
 use Rattle.std.specs.List.{AllByRecursion, range_with_len}
 use Rattle.presumption.specs.Answers.{Answers, Lawful}
 use Rattle.station.specs.declared.coordinator.CoordinatorEntry.{CoordinatorEntry}
@@ -15,7 +15,7 @@ use Rattle.stations.specs.Stations.{subordinate_at}
 use Rattle.assurance.proofs.Ideal as ideal
 use Rattle.assurance.proofs.Every.{Full}
 use Rattle.assurance.proofs.Loads.{same_drain}
-use Rattle.assurance.proofs.View.{lt_true, mail_as, message_as, co_as, sub_as, view}
+use Rattle.assurance.proofs.View.{co_as, view}
 use Rattle.run.specs.Answers.{answered}
 use Rattle.run.specs.Calls.{reply, refuse, coordinator_of, coordinator_entry}
 use Rattle.assurance.specs.declared.calls.Call.{Call}
@@ -29,27 +29,9 @@ use Rattle.assurance.proofs.Moves.{presumes, laws, Good, Becomes}
 use Rattle.assurance.proofs.Called.{close_view, give_up_view, chase_view, reject_view, inquire_view, deliver_view, lose_view, awaited_view, cut_call_view, restart_view}
 use Rattle.assurance.proofs.Opened.{open_view, powers}
 
-weight_as : (n : ℕ) (k : MessageKind) → weight n k ≡ ideal.weigh n (mail_as k)
-weight_as n message.Prepare = refl
-weight_as n message.Yes = refl
-weight_as n message.No = refl
-weight_as n message.Commit = refl
-weight_as n message.Abort = refl
-weight_as n message.Ack = refl
-weight_as n message.Inquiry = refl
-
-load_as : (n : ℕ) (p : List Message) → load n p ≡ ideal.load n (map message_as p)
-load_as n [] = refl
-load_as n (m ∷ p) = λ i. weight_as n m.kind i + load_as n p i
-
 weight_more : (n : ℕ) (k : MessageKind) → n ≤ 8 → weight n k ≤ weight 8 k
 weight_more n message.Prepare h = omega arith
-weight_more n message.Yes h = omega arith
-weight_more n message.No h = omega arith
-weight_more n message.Commit h = omega arith
-weight_more n message.Abort h = omega arith
-weight_more n message.Ack h = omega arith
-weight_more n message.Inquiry h = omega arith
+weight_more n m h = omega arith
 
 load_more : (n : ℕ) (p : List Message) → n ≤ 8 → load n p ≤ load 8 p
 load_more n [] h = omega arith
@@ -72,11 +54,11 @@ module _ (π : Answers) (𝓗 : Lawful π) (n : ℕ) (two : 2 ≤ n) (eight : n 
   -- the first message of the ideal run
   first_is : (v : ideal.Run) (m : ideal.Message) (ms : List ideal.Message) → v.post ≡ m ∷ ms → ideal.call Q (ideal.deliver 0 false 255 0) v ≡ ideal.hand_first Q m (ideal.with_post ms v)
   first_is v m ms e =
-      ap (λ (p : List ideal.Message). cond (ltb 0 (length p)) (pass (get_or p 0 (ideal.letter ideal.ACK 0 0 0)) (ideal.with_post (ideal.drop_at 0 p) v)) v) e
-      ∙ cond-true (ltb 0 (length (m ∷ ms))) _ _ (lt_true 0 (length (m ∷ ms)) (omega arith))
+      ap (λ (p : List ideal.Message). cond (ltb 0 (length p)) (pass (get_or p 0 (ideal.letter ideal.PREPARE 0 0 0)) (ideal.with_post (ideal.drop_at 0 p) v)) v) e
+      ∙ cond-true (ltb 0 (length (m ∷ ms))) _ _ (lt-ltb 0 (length (m ∷ ms)) (omega arith))
     where
       pass : ideal.Message → ideal.Run → ideal.Run
-      pass m u = cond (u.station m.to).power (ideal.handed Q m.mail m.revision m.to m.from 255 0 u) u
+      pass m u = cond (u.station m.receiver).power (ideal.handed Q m.kind m.revision m.receiver m.sender 255 0 u) u
 
   -- the same state, good, and as many deliveries
   pub record Same (x : Progress) (d : ideal.Made) : Type 0 where
@@ -92,13 +74,13 @@ module _ (π : Answers) (𝓗 : Lawful π) (n : ℕ) (two : 2 ≤ n) (eight : n 
   delivered_view zero x g = record { good = g; left = refl; made = refl }
   delivered_view (suc k) x g = go (λ y h. delivered_view k y h) x.state.store.post refl
     where
-      go : ((y : Progress) → Fine y.state → Same (delivered π k y) (ideal.drain Q k (view n y.state).post (view n y.state) y.deliveries)) → (p : List Message) → x.state.store.post ≡ p → Same (cond (ltb 0 (length p)) (delivered π k (first_delivered π x)) x) (ideal.drain Q (suc k) (map message_as p) (view n x.state) x.deliveries)
+      go : ((y : Progress) → Fine y.state → Same (delivered π k y) (ideal.drain Q k (view n y.state).post (view n y.state) y.deliveries)) → (p : List Message) → x.state.store.post ≡ p → Same (cond (ltb 0 (length p)) (delivered π k (first_delivered π x)) x) (ideal.drain Q (suc k) p (view n x.state) x.deliveries)
       go more [] e = record { good = g; left = refl; made = refl }
       go more (m ∷ ms) e =
           let t = deliver_view π 𝓗 n two eight x.state g 0 false 255 0 in
-          let q : view n (first_delivered π x).state ≡ ideal.hand_first Q (message_as m) (ideal.with_post (map message_as ms) (view n x.state)) = t.0 ∙ first_is (view n x.state) (message_as m) (map message_as ms) (ap (map message_as) e) in
+          let q : view n (first_delivered π x).state ≡ ideal.hand_first Q m (ideal.with_post ms (view n x.state)) = t.0 ∙ first_is (view n x.state) m ms e in
           let one : x.deliveries + 1 ≡ suc x.deliveries = omega arith in
-          subst (λ (y : Progress). Same y (ideal.drain Q (suc k) (map message_as (m ∷ ms)) (view n x.state) x.deliveries)) (sym (cond-true (ltb 0 (length (m ∷ ms))) (delivered π k (first_delivered π x)) x (lt_true 0 (length (m ∷ ms)) (omega arith))))
+          subst (λ (y : Progress). Same y (ideal.drain Q (suc k) (m ∷ ms) (view n x.state) x.deliveries)) (sym (cond-true (ltb 0 (length (m ∷ ms))) (delivered π k (first_delivered π x)) x (lt-ltb 0 (length (m ∷ ms)) (omega arith))))
           (moved_same _ _ _ (more (first_delivered π x) (next_good x.state _ (ideal.deliver 0 false 255 0) g t)) (λ i. ideal.drain Q k (q i).post (q i) (one i)))
 
   drained_view : (x : Progress) → Fine x.state → Same (drained π x) (ideal.emptied Q (view n x.state) x.deliveries)
@@ -106,7 +88,7 @@ module _ (π : Answers) (𝓗 : Lawful π) (n : ℕ) (two : 2 ≤ n) (eight : n 
   drained_view x g =
       let p = x.state.store.post in
       let v = view n x.state in
-      moved_same _ _ _ (delivered_view (load 8 p) x g) (same_drain Q (laws π 𝓗 n two eight) (load 8 p) (ideal.load n v.post) v.post v x.deliveries (omega (arith, load_as n p, load_more n p eight)) (omega arith))
+      moved_same _ _ _ (delivered_view (load 8 p) x g) (same_drain Q (laws π 𝓗 n two eight) (load 8 p) (load n p) v.post v x.deliveries (load_more n p eight) (omega arith))
 
   -- from progress that is the same
   drained_same : (x : Progress) (v : ideal.Run) (k : ℕ) → Fine x.state → view n x.state ≡ v → x.deliveries ≡ k → Same (drained π x) (ideal.emptied Q v k)
@@ -120,8 +102,6 @@ module _ (π : Answers) (𝓗 : Lawful π) (n : ℕ) (two : 2 ≤ n) (eight : n 
   urged_view r st g = go (coordinator_entry r st) refl
     where
       go : (e : CoordinatorEntry) → coordinator_entry r st ≡ e → To (urged π e r st) (cond ((view n st).station (coordinator_of r st)).power (ideal.nudge Q r (coordinator_of r st) (((view n st).station (coordinator_of r st)).coordinators r) (view n st)) (view n st))
-      go coordinator.None q = (sym (ap (λ (c : CoordinatorEntry). cond ((view n st).station (coordinator_of r st)).power (ideal.nudge Q r (coordinator_of r st) (co_as c) (view n st)) (view n st)) q ∙ same_cond _ (view n st)), g.shape)
-      go (coordinator.Open x) q = (sym (ap (λ (c : CoordinatorEntry). cond ((view n st).station (coordinator_of r st)).power (ideal.nudge Q r (coordinator_of r st) (co_as c) (view n st)) (view n st)) q ∙ same_cond _ (view n st)), g.shape)
       go (coordinator.Collecting x y) q =
           let t = give_up_view π 𝓗 n two eight st g r 255 0 in (
             t.0 ∙ (ap (λ (c : CoordinatorEntry). cond ((view n st).station (coordinator_of r st)).power (ideal.upon_give_up Q r (coordinator_of r st) (co_as c) 255 0 (view n st)) (view n st)) q
@@ -134,16 +114,17 @@ module _ (π : Answers) (𝓗 : Lawful π) (n : ℕ) (two : 2 ≤ n) (eight : n 
                 ∙ sym (ap (λ (c : CoordinatorEntry). cond ((view n st).station (coordinator_of r st)).power (ideal.nudge Q r (coordinator_of r st) (co_as c) (view n st)) (view n st)) q)),
             t.1,
           )
+      go e q = (sym (ap (λ (c : CoordinatorEntry). cond ((view n st).station (coordinator_of r st)).power (ideal.nudge Q r (coordinator_of r st) (co_as c) (view n st)) (view n st)) q ∙ same_cond _ (view n st)), g.shape)
 
   inquired_view : (r s : ℕ) (st : State) → s < n → Fine st → To (inquired π (subordinate_at st.stations s r) r s st) (ideal.asked Q r s (view n st))
   inquired_view r s st l g = go (subordinate_at st.stations s r) refl
     where
       go : (e : SubordinateEntry) → subordinate_at st.stations s r ≡ e → To (inquired π e r s st) (cond ((view n st).station s).power (ideal.upon_inquire Q r s (((view n st).station s).subordinates r) 255 0 (view n st)) (view n st))
-      go subordinate.None q = (sym (ap (λ (c : SubordinateEntry). cond ((view n st).station s).power (ideal.upon_inquire Q r s (sub_as c) 255 0 (view n st)) (view n st)) q ∙ same_cond _ (view n st)), g.shape)
-      go (subordinate.Active c) q = (sym (ap (λ (c : SubordinateEntry). cond ((view n st).station s).power (ideal.upon_inquire Q r s (sub_as c) 255 0 (view n st)) (view n st)) q ∙ same_cond _ (view n st)), g.shape)
+      go subordinate.None q = (sym (ap (λ (c : SubordinateEntry). cond ((view n st).station s).power (ideal.upon_inquire Q r s c 255 0 (view n st)) (view n st)) q ∙ same_cond _ (view n st)), g.shape)
+      go (subordinate.Active c) q = (sym (ap (λ (c : SubordinateEntry). cond ((view n st).station s).power (ideal.upon_inquire Q r s c 255 0 (view n st)) (view n st)) q ∙ same_cond _ (view n st)), g.shape)
       go (subordinate.Prepared c) q =
           let t = inquire_view π 𝓗 n two eight st g r s 255 0 in
-          (t.0 ∙ ap (λ (b : Bool). cond (b && ((view n st).station s).power) (ideal.upon_inquire Q r s (((view n st).station s).subordinates r) 255 0 (view n st)) (view n st)) (lt_true s n l), t.1)
+          (t.0 ∙ ap (λ (b : Bool). cond (b && ((view n st).station s).power) (ideal.upon_inquire Q r s (((view n st).station s).subordinates r) 255 0 (view n st)) (view n st)) (lt-ltb s n l), t.1)
 
   fine_urged : (r : ℕ) (st u : State) → Fine st → To u (ideal.urged Q r (view n st)) → Fine u
   fine_urged r st u g t = record { shape = t.1; full = subst (Full Q (laws π 𝓗 n two eight)) (sym t.0) (full_urged Q (laws π 𝓗 n two eight) r (view n st) g.full) }
@@ -191,12 +172,12 @@ module _ (π : Answers) (𝓗 : Lawful π) (n : ℕ) (two : 2 ≤ n) (eight : n 
   -- every call
   abbrev pub call_as : Call → ideal.Call
   call_as (calls.Open c x) = ideal.open_revision c x.bits
-  call_as (calls.Close r f k) = ideal.close r f k
-  call_as (calls.GiveUp r f k) = ideal.give_up r f k
-  call_as (calls.Chase r f k) = ideal.chase r f k
-  call_as (calls.Reject r s f k) = ideal.reject r s f k
-  call_as (calls.Inquire r s f k) = ideal.inquire r s f k
-  call_as (calls.Deliver i copy f k) = ideal.deliver i copy f k
+  call_as (calls.Close r f) = ideal.close r f.acts f.kept
+  call_as (calls.GiveUp r f) = ideal.give_up r f.acts f.kept
+  call_as (calls.Chase r f) = ideal.chase r f.acts f.kept
+  call_as (calls.Reject r s f) = ideal.reject r s f.acts f.kept
+  call_as (calls.Inquire r s f) = ideal.inquire r s f.acts f.kept
+  call_as (calls.Deliver i copy f) = ideal.deliver i copy f.acts f.kept
   call_as (calls.Lose i) = ideal.lose i
   call_as (calls.Cut s k) = ideal.cut s k
   call_as (calls.Restart s) = ideal.restart s
@@ -205,12 +186,12 @@ module _ (π : Answers) (𝓗 : Lawful π) (n : ℕ) (two : 2 ≤ n) (eight : n 
 
   pub call_view : (c : Call) (st : State) → Fine st → To (called π c st).state (ideal.call Q (call_as c) (view n st))
   call_view (calls.Open c x) st g = open_view π 𝓗 n two eight st g c x
-  call_view (calls.Close r f k) st g = close_view π 𝓗 n two eight st g r f k
-  call_view (calls.GiveUp r f k) st g = give_up_view π 𝓗 n two eight st g r f k
-  call_view (calls.Chase r f k) st g = chase_view π 𝓗 n two eight st g r f k
-  call_view (calls.Reject r s f k) st g = reject_view π 𝓗 n two eight st g r s f k
-  call_view (calls.Inquire r s f k) st g = inquire_view π 𝓗 n two eight st g r s f k
-  call_view (calls.Deliver i copy f k) st g = deliver_view π 𝓗 n two eight st g i copy f k
+  call_view (calls.Close r f) st g = close_view π 𝓗 n two eight st g r f.acts f.kept
+  call_view (calls.GiveUp r f) st g = give_up_view π 𝓗 n two eight st g r f.acts f.kept
+  call_view (calls.Chase r f) st g = chase_view π 𝓗 n two eight st g r f.acts f.kept
+  call_view (calls.Reject r s f) st g = reject_view π 𝓗 n two eight st g r s f.acts f.kept
+  call_view (calls.Inquire r s f) st g = inquire_view π 𝓗 n two eight st g r s f.acts f.kept
+  call_view (calls.Deliver i copy f) st g = deliver_view π 𝓗 n two eight st g i copy f.acts f.kept
   call_view (calls.Lose i) st g = lose_view π 𝓗 n two eight st g i
   call_view (calls.Cut s k) st g = cut_call_view π 𝓗 n two eight st g s k
   call_view (calls.Restart s) st g = restart_view π 𝓗 n two eight st g s

@@ -35,50 +35,38 @@ use Rattle.assurance.specs.Writes.{Accepted}
 use Rattle.assurance.proofs.Claims.{Laws}
 use Rattle.assurance.proofs.Sets.{mem_zero}
 use Rattle.assurance.proofs.SafeSteps.{turn_first}
-use Rattle.assurance.proofs.Tidy.{locals}
 use Rattle.assurance.proofs.Room.{records, room_rule}
 use Rattle.assurance.proofs.Every.{Full, room_all}
 use Rattle.assurance.proofs.Rules.{Rule, acts_of, turn_of, Why}
-use Rattle.assurance.proofs.View.{outcome_as, logging_as, mail_as, co_as, sub_as, act_as, turn_as, view, Shape}
+use Rattle.assurance.proofs.View.{co_as, turn_as, view, Shape}
 use Rattle.assurance.proofs.Performed.{Logged, step_view, single_is}
-
-abbrev pub outcome_from : ideal.Outcome → Outcome
-outcome_from ideal.commit = outcome.Commit
-outcome_from ideal.abort = outcome.Abort
+use Rattle.assurance.proofs.Local.{locals}
 
 -- a presumption of n stations, as the ideal run asks it
 abbrev pub presumes : Answers → ℕ → ideal.Presumption
 presumes π n =
     record {
       size = n;
-      presumed = λ _. outcome_as π.presumed;
-      acks = λ o _. π.acknowledges (outcome_from o);
-      forces = λ o _. π.forces (outcome_from o);
+      presumed = λ _. π.presumed;
+      acks = λ o _. π.acknowledges o;
+      forces = λ o _. π.forces o;
       opens = λ _. π.opens;
-      logs = λ _. logging_as π.abort_logging;
-      ackers = λ o all. cond (π.acknowledges (outcome_from o)) all 0;
+      logs = λ _. π.abort_logging;
+      ackers = λ o all. cond (π.acknowledges o) all 0;
     }
 
-is_commit : (o : Outcome) → outcome_as o ≡ ideal.commit → o ≡ outcome.Commit
-is_commit outcome.Commit e = refl
-is_commit outcome.Abort e = let z : ◌≡◌ {A = ℕ} 0 1 = cc in absurd (omega arith)
-
-is_abort : (o : Outcome) → outcome_as o ≡ ideal.abort → o ≡ outcome.Abort
-is_abort outcome.Commit e = let z : ◌≡◌ {A = ℕ} 0 1 = cc in absurd (omega arith)
-is_abort outcome.Abort e = refl
-
 apart : outcome.Commit ≡ outcome.Abort → ⊥
-apart e = let z : ◌≡◌ {A = ℕ} 0 1 = cc in omega arith
+apart e = grind arith
 
 pub laws : (π : Answers) → Lawful π → (n : ℕ) → 2 ≤ n → n ≤ 8 → Laws (presumes π n)
 laws π h n two eight =
     record {
-      commit_presumed = λ s e. h.unpresumed outcome.Abort (λ q. apart (sym (is_commit π.presumed e) ∙ sym q));
-      abort_presumed = λ s e. h.unpresumed outcome.Commit (λ q. apart (q ∙ is_abort π.presumed e));
-      opening = λ all s _ e. h.opening (is_commit π.presumed e);
-      forcing = λ o s e. h.forcing (outcome_from o) e;
+      commit_presumed = λ s e. h.unpresumed outcome.Abort (λ q. apart (sym e ∙ sym q));
+      abort_presumed = λ s e. h.unpresumed outcome.Commit (λ q. apart (q ∙ e));
+      opening = λ all s _ e. h.opening e;
+      forcing = λ o s e. h.forcing o e;
       acker = λ o all s m a. subst (λ (b : Bool). ideal.in_set (cond b all 0) s ≡ true) (sym a) m;
-      backer = λ o all s m. back (π.acknowledges (outcome_from o)) all s m;
+      backer = λ o all s m. back (π.acknowledges o) all s m;
       some = two;
       small = omega arith;
     }
@@ -123,20 +111,12 @@ without_as x t l = go (holds x t) ∙ ap (λ (k : ℕ). cond (holds x t) (bit_xo
     go false = refl
 
 -- posts to each of a set
-sends_as : (k : MessageKind) (r s : ℕ) (ts : List ℕ) → map act_as (map (λ t. post (letter k r s t)) ts) ≡ ideal.send_each (mail_as k) r s ts
+sends_as : (k : MessageKind) (r s : ℕ) (ts : List ℕ) → map (λ t. post (letter k r s t)) ts ≡ ideal.send_each k r s ts
 sends_as k r s [] = refl
-sends_as k r s (t ∷ ts) = ap (λ (l : List ideal.Act). ideal.send (ideal.letter (mail_as k) r s t) ∷ l) (sends_as k r s ts)
+sends_as k r s (t ∷ ts) = ap (λ (l : List ideal.Act). ideal.send (ideal.letter k r s t) ∷ l) (sends_as k r s ts)
 
-pub each_as : (n : ℕ) (k : MessageKind) (r s : ℕ) (x : StationSet) → n ≤ 8 → Within n x.bits → map act_as (post_each k r s x) ≡ ideal.send_each (mail_as k) r s (ideal.members n x.bits)
-each_as n k r s x l w = sends_as k r s (members x) ∙ ap (ideal.send_each (mail_as k) r s) (members_as n x l w)
-
-pub telling_as : (o : Outcome) → mail_as (telling o) ≡ ideal.outcome_mail (outcome_as o)
-telling_as outcome.Commit = refl
-telling_as outcome.Abort = refl
-
-pub from_as : (o : Outcome) → outcome_from (outcome_as o) ≡ o
-from_as outcome.Commit = refl
-from_as outcome.Abort = refl
+pub each_as : (n : ℕ) (k : MessageKind) (r s : ℕ) (x : StationSet) → n ≤ 8 → Within n x.bits → post_each k r s x ≡ ideal.send_each k r s (ideal.members n x.bits)
+each_as n k r s x l w = sends_as k r s (members x) ∙ ap (ideal.send_each k r s) (members_as n x l w)
 
 -- the marks of a step are of its revision
 logged_each : (c : ℕ) (k : MessageKind) (r s : ℕ) (ts : List ℕ) → AllByRecursion (Logged 0 c) (map (λ t. post (letter k r s t)) ts)
@@ -160,19 +140,15 @@ logged_acts : (π : Answers) (c s r : ℕ) (x : Step) → r < c → AllByRecursi
 logged_acts π c s r step.Rest h = tt
 logged_acts π c s r (step.OpenVote x) h = All-append (Logged 0 c) (if_so π.opens (write (line kind.Opening r x.bits) ∷ force ∷ [])) _ (logged_if c π.opens _ (tt, (tt, tt))) (logged_each c message.Prepare r s (members x))
 logged_acts π c s r (step.Prepare d t) h = (tt, (tt, (tt, tt)))
-logged_acts π c s r (step.RepeatYes v t) h = (tt, tt)
-logged_acts π c s r (step.VoteNo t) h = (tt, tt)
 logged_acts π c s r (step.DecideCommit x) h = (tt, (tt, logged_each c message.Commit r s (members x)))
 logged_acts π c s r (step.DecideAbort x y) h =
     All-append (Logged 0 c) (logged π.abort_logging (line kind.Abort r x.bits)) _ (logged_log c π.abort_logging _)
     (All-append (Logged 0 c) (post_each message.Abort r s y) _ (logged_each c message.Abort r s (members y)) (logged_if c (π.acknowledges outcome.Abort && empty y) _ (tt, tt)))
 logged_acts π c s r (step.Enforce o d) h = (logged_mark c o r h, (tt, All-append (Logged 0 c) (if_so (π.forces o) (force ∷ [])) _ (logged_if c (π.forces o) _ (tt, tt)) (logged_if c (π.acknowledges o) _ (tt, tt))))
 logged_acts π c s r (step.Acknowledge o t) h = logged_if c (π.acknowledges o) _ (tt, tt)
-logged_acts π c s r step.End h = (tt, tt)
-logged_acts π c s r (step.Tell k t) h = (tt, tt)
 logged_acts π c s r (step.Chase k w) h = logged_each c (telling k.outcome) r s (members w)
-logged_acts π c s r (step.Inquire d) h = (tt, tt)
 logged_acts π c s r (step.Reject d) h = (h, (tt, logged_if c (π.forces outcome.Abort) _ (tt, tt)))
+logged_acts π c s r z h = (tt, tt)
 
 -- a turn that changes nothing
 same_co : (n s r : ℕ) (st : State) → ideal.turn s (ideal.to_coordinator r (((view n st).station s).coordinators r)) (view n st) ≡ view n st
@@ -233,11 +209,11 @@ module _ (π : Answers) (𝓗 : Lawful π) (n : ℕ) (two : 2 ≤ n) (eight : n 
   stays_co s r u e st q h = inr (h, subst (λ (c : ideal.CoordinatorEntry). ideal.turn s (ideal.to_coordinator r c) (view n st) ≡ view n st) (ap co_as q) (same_co n s r st))
 
   pub stays_sub : (s r : ℕ) (u : Rule) (e : SubordinateEntry) (st : State) → subordinate_at st.stations s r ≡ e → ideal.stay ≡ turn_of P u r → Turns s r (turn.Subordinate e) u st
-  stays_sub s r u e st q h = inr (h, subst (λ (c : ideal.SubordinateEntry). ideal.turn s (ideal.to_subordinate r c) (view n st) ≡ view n st) (ap sub_as q) (same_sub n s r st))
+  stays_sub s r u e st q h = inr (h, subst (λ (c : ideal.SubordinateEntry). ideal.turn s (ideal.to_subordinate r c) (view n st) ≡ view n st) q (same_sub n s r st))
 
   -- a step that is a rule's
   pub by_rule : (u : Rule) (x : Step) (tn : Turn) (r s t f k : ℕ) (st : State) → Good st → s < n → r < length st.store.log → Why P ((view n st).station s) r t u
-      → map act_as (acts π s r x) ≡ acts_of P u r s t → Turns s r tn u st
+      → (acts π s r x) ≡ acts_of P u r s t → Turns s r tn u st
       → Does s r x tn f k st (ideal.step s (acts_of P u r s t) (turn_of P u r) f k (view n st))
   by_rule u x tn r s t f k st g h l w a b =
       let q = step_view n s r (acts π s r x) tn f k st h (omega (arith, g.full.cap)) g.shape (logged_acts π (length st.store.log) s r x l)
@@ -257,4 +233,4 @@ module _ (π : Answers) (𝓗 : Lawful π) (n : ℕ) (two : 2 ≤ n) (eight : n 
   rest_co e r s f k st g h l q = rest (turn.Coordinator e) r s f k st g h l (subst (λ (c : ideal.CoordinatorEntry). ideal.turn s (ideal.to_coordinator r c) (view n st) ≡ view n st) (ap co_as q) (same_co n s r st))
 
   pub rest_sub : (e : SubordinateEntry) (r s f k : ℕ) (st : State) → Good st → s < n → r < length st.store.log → subordinate_at st.stations s r ≡ e → Does s r step.Rest (turn.Subordinate e) f k st (view n st)
-  rest_sub e r s f k st g h l q = rest (turn.Subordinate e) r s f k st g h l (subst (λ (c : ideal.SubordinateEntry). ideal.turn s (ideal.to_subordinate r c) (view n st) ≡ view n st) (ap sub_as q) (same_sub n s r st))
+  rest_sub e r s f k st g h l q = rest (turn.Subordinate e) r s f k st g h l (subst (λ (c : ideal.SubordinateEntry). ideal.turn s (ideal.to_subordinate r c) (view n st) ≡ view n st) q (same_sub n s r st))

@@ -4,18 +4,19 @@ use Rattle.std.specs.List.{AllByRecursion, range_with_len}
 use Rattle.std.proofs.ByRecursion.{All-push, kept_by_passes}
 use Rattle.std.proofs.lemmas.Bool.Decides.{nat_tests}
 use Rattle.std.proofs.lemmas.Bool.{cond_both, cond-true, cond-false, cases_Bool, true≢false, eqb-true, eq-eqb, and_parts, not-true, ltb-true}
-use Rattle.assurance.proofs.Ideal.{updated, in_set, with_station, members, kI, commit, CoordinatorEntry, none, Open, Collecting, Announcing, SubordinateEntry, idle, Active, Prepared, Station, MessageKind, PREPARE, YES, NO, COMMIT, ABORT, ACK, INQUIRY, Message, Plan, Run, Presumption, at_station, set_coordinator, set_subordinate, with_message, marked_installed, marked_dropped, with_post, Act, write, force, send, installed, dropped, act_done, acts_done, to_coordinator, to_subordinate, turn, step, line, letter, send_each, await, close_acts, commit_acts, prepare_acts, upon_prepare, upon_yes, upon_close, upon_inquire, handed, upon_open, open_revision, close, load, all_powered, hand_first, drain, emptied, nudge, urged, asked, inquire_all, revise, revise_all, settled, fits, call, calls}
+use Rattle.assurance.proofs.Ideal.{updated, in_set, with_station, members, kI, commit, CoordinatorEntry, none, Open, Collecting, Announcing, SubordinateEntry, idle, Active, Prepared, Station, MessageKind, PREPARE, YES, COMMIT, ABORT, ACK, Message, Plan, Run, Presumption, at_station, set_coordinator, set_subordinate, with_message, with_post, Act, write, force, send, act_done, acts_done, to_coordinator, to_subordinate, turn, step, line, letter, send_each, await, close_acts, commit_acts, prepare_acts, upon_prepare, upon_yes, upon_close, upon_inquire, handed, upon_open, open_revision, close, load, all_powered, hand_first, drain, emptied, nudge, urged, asked, inquire_all, revise, revise_all, settled, fits, call, calls}
 use Rattle.assurance.proofs.Lasting.{world, CoLegal}
-use Rattle.assurance.proofs.Tidy.{locals}
 use Rattle.assurance.proofs.Sets.{mem_add, mem_zero, add_self, add_keeps, mem_below, mem_ext}
 use Rattle.assurance.proofs.Claims.{Laws, new, up}
 use Rattle.assurance.proofs.SafeActs.{SafeSt, upd_same}
-use Rattle.assurance.proofs.Invariant.{Inv, inv_call, inv_first}
-use Rattle.assurance.proofs.Rules.{Rule, vote, again, refuse, joins, decide, drop, enforce, confirm, less, finish, answer, start, deny, press, asks, acts_of, turn_of, For, Did, by_did, did_handed, whole, few_members, moved, same_locals}
+use Rattle.assurance.proofs.Invariant.{Inv, inv_first}
+use Rattle.assurance.proofs.Rules.{Rule, vote, decide, start, acts_of, turn_of, For, Did, by_did, did_handed, whole, few_members}
 use Rattle.assurance.proofs.Loads.{empty, load_handed}
 use Rattle.assurance.proofs.Whole.{On, Aside, aside_refl, aside_trans, Sure, Rested, Calm, on_moved, aside_moved, co_moved, sure_moved, co_now, aside_did, on_first, first_on}
 use Rattle.assurance.proofs.UnderWay.{In, in_left, in_last, elem_members, letters, letters_sends, room_post, post_acts, post_turn, CoPend, MildOf, Mild, Tri, mid_first, rest_of, mild_sends, in_sends, told}
 use Rattle.assurance.proofs.Settled.{sure_far, tri_of, few_sends}
+use Rattle.std.proofs.lemmas.List.{nil_from_length}
+use Rattle.assurance.proofs.Local.{locals, moved, same_locals, step_keeps, anywhere}
 
 -- how many members
 abbrev pub card : ℕ → ℕ → ℕ
@@ -57,15 +58,11 @@ card_zero n = none_kept 0 n
 abbrev pub vweigh : MessageKind → ℕ
 vweigh PREPARE = 4
 vweigh YES = 3
-vweigh NO = 0
-vweigh COMMIT = 0
-vweigh ABORT = 0
-vweigh ACK = 0
-vweigh INQUIRY = 0
+vweigh m = 0
 
 abbrev pub vload : List Message → ℕ
 vload [] = 0
-vload (m ∷ l) = vweigh m.mail + vload l
+vload (m ∷ l) = vweigh m.kind + vload l
 
 vload_append : (l k : List Message) → vload (l ++ k) ≡ vload l + vload k
 vload_append [] k = omega arith
@@ -81,21 +78,16 @@ load_sends n r s (t ∷ ts) = omega (arith, load_sends n r s ts)
 
 abbrev pub Busy : SubordinateEntry → Type 0
 Busy idle = ⊥
-Busy (Active c) = Unit {0}
-Busy (Prepared c) = Unit {0}
+Busy e = Unit {0}
 
 module _ (π : Presumption) (𝓛 : Laws π) (r c all : ℕ) (st0 : Run) (sets : (u : ℕ) → in_set all u ≡ true → u < π.size) where
   abbrev pub VoteOf : MessageKind → ℕ → ℕ → ℕ → Type 0
   VoteOf PREPARE q s t = (q ≡ r) × (s ≡ c) × (in_set all t ≡ true)
   VoteOf YES q s t = (q ≡ r) × (t ≡ c) × (in_set all s ≡ true)
-  VoteOf NO q s t = ⊥
-  VoteOf COMMIT q s t = ⊥
-  VoteOf ABORT q s t = ⊥
-  VoteOf ACK q s t = ⊥
-  VoteOf INQUIRY q s t = ⊥
+  VoteOf m q s t = ⊥
 
   abbrev pub VoteM : Message → Type 0
-  VoteM m = VoteOf m.mail m.revision m.from m.to
+  VoteM m = VoteOf m.kind m.revision m.sender m.receiver
 
   abbrev pub Cover : ℕ → List Message → Type 0
   Cover ys p = (u : ℕ) → in_set all u ≡ true → In (letter PREPARE r c u) p ⊎ (In (letter YES r u c) p ⊎ (in_set ys u ≡ true))
@@ -129,8 +121,7 @@ module _ (π : Presumption) (𝓛 : Laws π) (r c all : ℕ) (st0 : Run) (sets :
   module _ (s : ℕ) (ms : List Message) (st : Run) where
     prepare_post : (e : SubordinateEntry) → Busy e → length ms < 64 → (upon_prepare π r s c e 255 0 (with_post ms st)).post ≡ ms ++ (letter YES r s c ∷ [])
     prepare_post idle h l = absurd h
-    prepare_post (Active d) h l = room_post (letter YES r s c) (with_post ms st) l
-    prepare_post (Prepared d) h l = room_post (letter YES r s c) (with_post ms st) l
+    prepare_post e h l = room_post (letter YES r s c) (with_post ms st) l
 
     prepare_co : (e : SubordinateEntry) → (t q : ℕ) → Busy e → ((upon_prepare π r s c e 255 0 (with_post ms st)).station t).coordinators q ≡ (st.station t).coordinators q
     prepare_co idle t q h = absurd h
@@ -161,8 +152,8 @@ module _ (π : Presumption) (𝓛 : Laws π) (r c all : ℕ) (st0 : Run) (sets :
           busy = λ t i. prepare_busy s ms st ((st.station s).subordinates r) t busy (v.busy t i);
           posts = rw p (All-push _ ms (letter YES r s c) v.posts.1 (refl, refl, m));
           cover = rw p (λ u i. elim (v.cover u i) [
-            | inl j ↦ elim j [ inl e ↦ inr (inl (subst (λ (x : ℕ). In (letter YES r x c) (ms ++ (letter YES r s c ∷ []))) (ap (λ (x : Message). x.to) e) (in_last (letter YES r s c) ms))) | inr e ↦ inl (in_left _ ms (letter YES r s c ∷ []) e) ]
-            | inr j ↦ elim j [ inl k ↦ elim k [ inl e ↦ absurd (differ (ap (λ (x : Message). x.mail) e)) | inr e ↦ inr (inl (in_left _ ms (letter YES r s c ∷ []) e)) ] | inr k ↦ inr (inr k) ]
+            | inl j ↦ elim j [ inl e ↦ inr (inl (subst (λ (x : ℕ). In (letter YES r x c) (ms ++ (letter YES r s c ∷ []))) (ap (λ (x : Message). x.receiver) e) (in_last (letter YES r s c) ms))) | inr e ↦ inl (in_left _ ms (letter YES r s c ∷ []) e) ]
+            | inr j ↦ elim j [ inl k ↦ elim k [ inl e ↦ absurd (differ (ap (λ (x : Message). x.kind) e)) | inr e ↦ inr (inl (in_left _ ms (letter YES r s c ∷ []) e)) ] | inr k ↦ inr (inr k) ]
           ]);
           few = rw p (omega (arith, few, length-append ms (letter YES r s c ∷ [])));
           left = rw p (omega (arith, vload_append ms (letter YES r s c ∷ [])));
@@ -193,24 +184,20 @@ module _ (π : Presumption) (𝓛 : Laws π) (r c all : ℕ) (st0 : Run) (sets :
           busy = λ x i. subst Busy (sym (sub_co (Collecting all (with_station v.ys t)) (with_post ms st) x r)) (v.busy x i);
           posts = v.posts.1;
           cover = λ u i. elim (v.cover u i) [
-            | inl j ↦ elim j [ inl e ↦ absurd (no_yes (ap (λ (x : Message). x.mail) e)) | inr e ↦ inl e ]
-            | inr j ↦ elim j [ inl k ↦ elim k [ inl e ↦ inr (inr (subst (λ (x : ℕ). in_set (with_station v.ys t) x ≡ true) (ap (λ (x : Message). x.from) e) (add_self v.ys t))) | inr e ↦ inr (inl e) ] | inr k ↦ inr (inr (add_keeps v.ys t u k)) ]
+            | inl j ↦ elim j [ inl e ↦ absurd (no_yes (ap (λ (x : Message). x.kind) e)) | inr e ↦ inl e ]
+            | inr j ↦ elim j [ inl k ↦ elim k [ inl e ↦ inr (inr (subst (λ (x : ℕ). in_set (with_station v.ys t) x ≡ true) (ap (λ (x : Message). x.sender) e) (add_self v.ys t))) | inr e ↦ inr (inl e) ] | inr k ↦ inr (inr (add_keeps v.ys t u k)) ]
           ];
           few = omega arith;
           left = omega arith;
         },
       )
 
-  nil_of : (ms : List Message) → length ms ≤ 0 → ms ≡ []
-  nil_of [] h = refl
-  nil_of (m ∷ ms) h = absurd (omega arith)
-
   last_vote : (b t : ℕ) (ms : List Message) (st : Run) (v : Voting b (with_post (letter YES r t c ∷ ms) st)) → SafeSt π st → with_station v.ys t ≡ all → (d : ℕ) × (suc d ≤ b) × Telling d (step c (commit_acts π r c all) (to_coordinator r (await commit (π.ackers commit all))) 255 0 (with_post ms st))
   last_vote b t ms st v h e =
       let few = v.few in
       let left = v.left in
       let ca : card π.size all ≤ suc (card π.size v.ys) = subst (λ (x : ℕ). card π.size x ≤ suc (card π.size v.ys)) e (card_add π.size v.ys t) in
-      let nil = nil_of ms (omega arith) in
+      let nil = nil_from_length ms (omega arith) in
       let out = send_each COMMIT r c (members π.size all) in
       let aw = await commit (π.ackers commit all) in
       let w = turn c (to_coordinator r aw) (acts_done c (commit_acts π r c all) (with_post ms st)) in
@@ -248,45 +235,27 @@ module _ (π : Presumption) (𝓛 : Laws π) (r c all : ℕ) (st0 : Run) (sets :
   in_post : (x m : Message) (st : Run) → In x st.post → In x (with_message m st).post
   in_post x m st h = cond_both (ltb (length st.post) 64) (st.post ++ (m ∷ [])) st.post (In x) (λ _. in_left x st.post (m ∷ []) h) (λ _. h)
 
-  in_acts : (x : Message) (s : ℕ) (l : List Act) (st : Run) → In x st.post → In x (acts_done s l st).post
-  in_acts x s [] st h = h
-  in_acts x s (write y ∷ l) st h = in_acts x s l (act_done s (write y) st) h
-  in_acts x s (force ∷ l) st h = in_acts x s l (act_done s force st) h
-  in_acts x s (send m ∷ l) st h = in_acts x s l (with_message m st) (in_post x m st h)
-  in_acts x s (installed q ∷ l) st h = in_acts x s l (marked_installed q s st) h
-  in_acts x s (dropped q ∷ l) st h = in_acts x s l (marked_dropped q s st) h
+  in_act : (x : Message) (s : ℕ) (a : Act) (st : Run) → In x st.post → In x (act_done s a st).post
+  in_act x s (send m) st h = in_post x m st h
+  in_act x s a st h = h
 
   in_did : (x : Message) (st : Run) (q s t : ℕ) (P : Rule → Type 0) (v : Run) → Did π st q s t 255 0 P v → In x st.post → In x v.post
-  in_did x st q s t P v d h = by_did π (λ (w : Run). In x w.post) st q s t 255 0 P v d h (λ u w _. subst (λ (z : Run). In x z.post) (sym (whole π 𝓛 u q s t st)) (subst (In x) (sym (post_turn s (turn_of π u q) (acts_done s (acts_of π u q s t) st))) (in_acts x s (acts_of π u q s t) st h)))
+  in_did x st q s t P v d h =
+      by_did π (λ (w : Run). In x w.post) st q s t 255 0 P v d h
+      (λ u w _. step_keeps (λ _ _. Unit {0}) s (λ (v : Run). In x v.post) (λ a v _. in_act x s a v) (λ g v i. i) (acts_of π u q s t) (turn_of π u q) 255 0 st (anywhere s (acts_of π u q s t) st) h)
 
   calm_rule : (u : Rule) (m : MessageKind) (q : ℕ) → For π u m → (PREPARE ≡ m → ⊥) → Calm (turn_of π u q)
   calm_rule (vote d) m q f n = absurd (n f)
-  calm_rule again m q f n = tt
-  calm_rule refuse m q f n = tt
-  calm_rule (joins a y) m q f n = tt
-  calm_rule (decide a) m q f n = tt
-  calm_rule (drop a d) m q f n = tt
-  calm_rule (enforce o d) m q f n = tt
-  calm_rule (confirm o) m q f n = tt
-  calm_rule (less o w) m q f n = tt
-  calm_rule finish m q f n = tt
-  calm_rule (answer o) m q f n = tt
-  calm_rule (start a) m q f n = tt
-  calm_rule (deny d) m q f n = tt
-  calm_rule (press o w) m q f n = tt
-  calm_rule (asks d) m q f n = tt
+  calm_rule u m q f n = tt
 
   sure_did : (m : MessageKind) → (PREPARE ≡ m → ⊥) → (st : Run) (q s t : ℕ) (v : Run) → Did π st q s t 255 0 (λ u. For π u m) v → (x : ℕ) → Sure ((st.station x).subordinates r) → Sure ((v.station x).subordinates r)
   sure_did m n st q s t v d x h = by_did π (λ (w : Run). Sure ((w.station x).subordinates r)) st q s t 255 0 (λ u. For π u m) v d h (λ u w f. subst (λ (z : Run). Sure ((z.station x).subordinates r)) (sym (whole π 𝓛 u q s t st)) (sure_moved s (acts_of π u q s t) (turn_of π u q) st (calm_rule u m q f n) x r h))
 
   mild_not : (m : MessageKind) (q s t : ℕ) → MildOf r c m q s t → PREPARE ≡ m → ⊥
-  mild_not PREPARE q s t h e = h
-  mild_not YES q s t h e = h
-  mild_not NO q s t h e = h
   mild_not COMMIT q s t h e = grind arith
   mild_not ABORT q s t h e = grind arith
   mild_not ACK q s t h e = grind arith
-  mild_not INQUIRY q s t h e = h
+  mild_not m q s t h e = h
 
   -- a COMMIT leaves its receiver sure
   sure_now : (m : MessageKind) (q s t : ℕ) (st : Run) → COMMIT ≡ m → q ≡ r → Sure (((handed π m q s t 255 0 st).station s).subordinates r)
@@ -298,8 +267,8 @@ module _ (π : Presumption) (𝓛 : Laws π) (r c all : ℕ) (st0 : Run) (sets :
   going_first : (b : ℕ) (m : Message) (ms : List Message) (st : Run) → m ∷ ms ≡ st.post → Going b st → (d : ℕ) × (suc d ≤ b) × Going d (hand_first π m (with_post ms st))
   going_first b m ms st e g =
       let f = first_on π 𝓛 m ms st g.on in
-      let D = did_handed π m.mail m.revision m.to m.from 255 0 (with_post ms st) in
-      let side = aside_did π 𝓛 (with_post ms st) m.revision m.to m.from (λ u. For π u m.mail) _ D in
+      let D = did_handed π m.kind m.revision m.receiver m.sender 255 0 (with_post ms st) in
+      let side = aside_did π 𝓛 (with_post ms st) m.revision m.receiver m.sender (λ u. For π u m.kind) _ D in
       let q = step_phase g.phase in (
         q.0,
         q.1,
@@ -307,7 +276,7 @@ module _ (π : Presumption) (𝓛 : Laws π) (r c all : ℕ) (st0 : Run) (sets :
           inv = inv_first π 𝓛 m ms st e g.inv;
           on = on_first π 𝓛 m ms st g.on;
           own = rw f (ap (λ (h : ℕ → Plan). (h r).coordinator) side.plan ∙ g.own);
-          side = rw f (aside_trans r st0 st _ g.side (subst (λ (x : ℕ). Aside x st (handed π m.mail m.revision m.to m.from 255 0 (with_post ms st))) (rev_of' g.phase) (record { plan = side.plan; count = side.count; cos = side.cos; subs = side.subs })));
+          side = rw f (aside_trans r st0 st _ g.side (subst (λ (x : ℕ). Aside x st (handed π m.kind m.revision m.receiver m.sender 255 0 (with_post ms st))) (rev_of' g.phase) (record { plan = side.plan; count = side.count; cos = side.cos; subs = side.subs })));
           phase = rw f q.2;
         },
       )
@@ -315,15 +284,11 @@ module _ (π : Presumption) (𝓛 : Laws π) (r c all : ℕ) (st0 : Run) (sets :
       vote_rev : (k : MessageKind) (q s t : ℕ) → VoteOf k q s t → q ≡ r
       vote_rev PREPARE q s t h = h.0
       vote_rev YES q s t h = h.0
-      vote_rev NO q s t h = absurd h
-      vote_rev COMMIT q s t h = absurd h
-      vote_rev ABORT q s t h = absurd h
-      vote_rev ACK q s t h = absurd h
-      vote_rev INQUIRY q s t h = absurd h
+      vote_rev m q s t h = absurd h
 
       rev_of' : Voting b st ⊎ Telling b st → m.revision ≡ r
-      rev_of' (inl v) = let a : AllByRecursion VoteM (m ∷ ms) = subst (AllByRecursion VoteM) (sym e) v.posts in vote_rev m.mail m.revision m.from m.to a.0
-      rev_of' (inr v) = let a : AllByRecursion (Mild r c) (m ∷ ms) = subst (AllByRecursion (Mild r c)) (sym e) v.tri.0 in Rattle.assurance.proofs.UnderWay.rev_of π 𝓛 r c m.mail m.revision m.from m.to a.0
+      rev_of' (inl v) = let a : AllByRecursion VoteM (m ∷ ms) = subst (AllByRecursion VoteM) (sym e) v.posts in vote_rev m.kind m.revision m.sender m.receiver a.0
+      rev_of' (inr v) = let a : AllByRecursion (Mild r c) (m ∷ ms) = subst (AllByRecursion (Mild r c)) (sym e) v.tri.0 in Rattle.assurance.proofs.UnderWay.rev_of π 𝓛 r c m.kind m.revision m.sender m.receiver a.0
 
       over : Voting b st → Voting b (with_post (m ∷ ms) st)
       over v = record { ys = v.ys; entry = v.entry; some = v.some; within = v.within; busy = v.busy; posts = subst (AllByRecursion VoteM) (sym e) v.posts; cover = subst (Cover v.ys) (sym e) v.cover; few = subst (λ (p : List Message). length p + card π.size v.ys ≤ card π.size all) (sym e) v.few; left = subst (λ (p : List Message). vload p + 2 * card π.size v.ys ≤ b) (sym e) v.left }
@@ -331,31 +296,27 @@ module _ (π : Presumption) (𝓛 : Laws π) (r c all : ℕ) (st0 : Run) (sets :
       voted : (k : MessageKind) (q s t : ℕ) → Voting b (with_post (letter k q t s ∷ ms) st) → VoteOf k q t s → (d : ℕ) × (suc d ≤ b) × (Voting d (handed π k q s t 255 0 (with_post ms st)) ⊎ Telling d (handed π k q s t 255 0 (with_post ms st)))
       voted PREPARE q s t v h = subst (λ (x : ℕ). Out b ms st PREPARE x s t) (sym h.0) (subst (λ (x : ℕ). Out b ms st PREPARE r s x) (sym h.1) (λ v. let q = hand_prepare b s ms st v h.2 in (q.0, q.1, inl q.2))) v
       voted YES q s t v h = subst (λ (x : ℕ). Out b ms st YES x s t) (sym h.0) (subst (λ (x : ℕ). Out b ms st YES r x t) (sym h.1) (λ v. hand_yes b t ms st v g.inv.safe h.2)) v
-      voted NO q s t v h = absurd h
-      voted COMMIT q s t v h = absurd h
-      voted ABORT q s t v h = absurd h
-      voted ACK q s t v h = absurd h
-      voted INQUIRY q s t v h = absurd h
+      voted m q s t v h = absurd h
 
-      step_phase : Voting b st ⊎ Telling b st → (d : ℕ) × (suc d ≤ b) × (Voting d (handed π m.mail m.revision m.to m.from 255 0 (with_post ms st)) ⊎ Telling d (handed π m.mail m.revision m.to m.from 255 0 (with_post ms st)))
-      step_phase (inl v) = voted m.mail m.revision m.to m.from (over v) (over v).posts.0
+      step_phase : Voting b st ⊎ Telling b st → (d : ℕ) × (suc d ≤ b) × (Voting d (handed π m.kind m.revision m.receiver m.sender 255 0 (with_post ms st)) ⊎ Telling d (handed π m.kind m.revision m.receiver m.sender 255 0 (with_post ms st)))
+      step_phase (inl v) = voted m.kind m.revision m.receiver m.sender (over v) (over v).posts.0
       step_phase (inr v) =
-          let w = handed π m.mail m.revision m.to m.from 255 0 (with_post ms st) in
+          let w = handed π m.kind m.revision m.receiver m.sender 255 0 (with_post ms st) in
           let a : AllByRecursion (Mild r c) (m ∷ ms) = subst (AllByRecursion (Mild r c)) (sym e) v.tri.0 in
           let f = first_on π 𝓛 m ms st g.on in
-          let D = did_handed π m.mail m.revision m.to m.from 255 0 (with_post ms st) in
+          let D = did_handed π m.kind m.revision m.receiver m.sender 255 0 (with_post ms st) in
           let mid = mid_first π 𝓛 r c st0 m ms st e (record { inv = g.inv; on = g.on; own = g.own; side = g.side; tri = v.tri }) in
-          let lo = load_handed π 𝓛 m.mail m.revision m.to m.from 255 0 (with_post ms st) in
+          let lo = load_handed π 𝓛 m.kind m.revision m.receiver m.sender 255 0 (with_post ms st) in
           let le : load π.size (m ∷ ms) ≤ b = subst (λ (p : List Message). load π.size p ≤ b) (sym e) v.left in (
             load π.size w.post,
             omega (arith, lo, le),
             inr (record {
               tri = subst (Tri π 𝓛 r c) f mid.tri;
               heard = λ x. elim (v.heard x) [
-                | inl i ↦ inl (sure_did m.mail (mild_not m.mail m.revision m.from m.to a.0) (with_post ms st) m.revision m.to m.from w D x i)
+                | inl i ↦ inl (sure_did m.kind (mild_not m.kind m.revision m.sender m.receiver a.0) (with_post ms st) m.revision m.receiver m.sender w D x i)
                 | inr i ↦ elim (subst (In (letter COMMIT r c x)) (sym e) i) [
-                  | inl k ↦ inl (subst (λ (y : ℕ). Sure ((w.station y).subordinates r)) (ap (λ (y : Message). y.to) k) (sure_now m.mail m.revision m.to m.from (with_post ms st) (sym (ap (λ (y : Message). y.mail) k)) (ap (λ (y : Message). y.revision) k)))
-                  | inr k ↦ inr (in_did (letter COMMIT r c x) (with_post ms st) m.revision m.to m.from (λ u. For π u m.mail) w D k)
+                  | inl k ↦ inl (subst (λ (y : ℕ). Sure ((w.station y).subordinates r)) (ap (λ (y : Message). y.receiver) k) (sure_now m.kind m.revision m.receiver m.sender (with_post ms st) (sym (ap (λ (y : Message). y.kind) k)) (ap (λ (y : Message). y.revision) k)))
+                  | inr k ↦ inr (in_did (letter COMMIT r c x) (with_post ms st) m.revision m.receiver m.sender (λ u. For π u m.kind) w D k)
                 ]
               ];
               left = omega arith;
@@ -402,18 +363,16 @@ module _ (π : Presumption) (𝓛 : Laws π) (st : Run) (bare : st.post ≡ []) 
   idle_ask r s k h = cond_both (st.station s).power (upon_inquire π r s ((st.station s).subordinates r) 255 0 st) st (λ (v : Run). v ≡ st) (λ _. go ((st.station s).subordinates r) h) (λ _. refl)
     where
       go : (e : SubordinateEntry) → Sure e → upon_inquire π r s e 255 0 st ≡ st
-      go idle h = refl
-      go (Active d) h = refl
       go (Prepared d) h = absurd h
+      go e h = refl
 
   idle_urge : (r : ℕ) → Rested ((st.station (st.plan r).coordinator).coordinators r) → urged π r st ≡ st
   idle_urge r h = cond_both (st.station (st.plan r).coordinator).power (nudge π r (st.plan r).coordinator ((st.station (st.plan r).coordinator).coordinators r) st) st (λ (v : Run). v ≡ st) (λ _. go ((st.station (st.plan r).coordinator).coordinators r) h) (λ _. refl)
     where
       go : (e : CoordinatorEntry) → Rested e → nudge π r (st.plan r).coordinator e st ≡ st
-      go none h = refl
-      go (Open a) h = refl
       go (Collecting a y) h = absurd h
       go (Announcing o w) h = absurd h
+      go e h = refl
 
   idle_asks : (r : ℕ) → ((t : ℕ) → Sure ((st.station t).subordinates r)) → (ss : List ℕ) (k : ℕ) → (inquire_all π r ss st k).made ≡ k
   unfolding inquire_all
@@ -431,7 +390,7 @@ module _ (π : Presumption) (𝓛 : Laws π) (st : Run) (bare : st.post ≡ []) 
       subst (λ (x : Run). (inquire_all π r (range_with_len 0 π.size) x (emptied π (urged π r st) k).made).made ≡ k) (sym b.0) (subst (λ (y : ℕ). (inquire_all π r (range_with_len 0 π.size) st y).made ≡ k) (sym b.1) (idle_asks r h (range_with_len 0 π.size) k))
 
 -- a fresh run opens and closes one revision
-module _ (π : Presumption) (𝓛 : Laws π) (c all : ℕ) (ok : fits π.size c all ≡ true) (first : Inv π 𝓛 new) where
+module _ (π : Presumption) (𝓛 : Laws π) (c all : ℕ) (ok : fits π.size c all ≡ true) (inv : Inv π 𝓛 (calls π (open_revision c all ∷ (close 0 255 0 ∷ [])) new)) where
   abbrev st1 : Run
   st1 = upon_open c all new
 
@@ -491,7 +450,7 @@ module _ (π : Presumption) (𝓛 : Laws π) (c all : ℕ) (ok : fits π.size c 
       let z = card_zero π.size in
       let side = aside_moved c (close_acts π 0 c all) (to_coordinator 0 (Collecting all 0)) st1 0 refl in
       record {
-        inv = subst (Inv π 𝓛) closed (inv_call π 𝓛 (close 0 255 0) (call π (open_revision c all) new) (inv_call π 𝓛 (open_revision c all) new first));
+        inv = subst (Inv π 𝓛) closed inv;
         on = on_moved c (close_acts π 0 c all) (to_coordinator 0 (Collecting all 0)) st1 (λ s. refl);
         own = ap (λ (h : ℕ → Plan). (h 0).coordinator) side.plan;
         side = aside_refl 0 w;

@@ -2,7 +2,7 @@
 use Rattle.std.proofs.Common.{◌≡◌, ℕ, zero, suc, ◌+◌, ◌/◌, ◌^◌, ◌<◌, ◌≤◌, Bool, true, false, cond, not, ◌&&◌, ◌||◌, eqb, ltb, List, [], ◌∷◌, ◌++◌, length, get_or, set, filter, sym, refl, ap, ◌∙◌, subst, inl, inr, one-mul, le-div_iff_mul-le, arith, length-set, get_or-set_other, get_or-set_same, set-set, pow_pos}
 use mathlib.Core.Path.{fun_ext}
 use Rattle.std.proofs.lemmas.Bool.Decides.{nat_tests}
-use Rattle.std.proofs.lemmas.Bool.{cond-true, cond-false, cases_Bool, cases_eq, cases_lt, true≢false, eq-eqb, ne_eqb, and_parts, not-true}
+use Rattle.std.proofs.lemmas.Bool.{cond-true, cond-false, cases_Bool, cases_eq, cases_lt, true≢false, eq-eqb, ne_eqb, and_parts, not-true, lt-ltb, le-ltb, ltb-true}
 use Rattle.std.proofs.lemmas.List.{get_or_past, get_or_push, length_push, set_past}
 use Rattle.std.specs.List.{AllByRecursion, range_with_len}
 use Rattle.journal.specs.Meaning.{section}
@@ -21,7 +21,7 @@ use Rattle.stations.specs.declared.Turn.TheVariants as turn
 use Rattle.assurance.proofs.Ideal as ideal
 use Rattle.station.specs.Sets.{empty, members}
 use Rattle.assurance.proofs.Sets.{mem_below}
-use Rattle.assurance.proofs.View.{lt_true, lt_false, true_lt, station_as, net_of, plan_of, parts, view, Shape, co_changed, sub_changed}
+use Rattle.assurance.proofs.View.{station_as, net_of, plan_of, parts, view, Shape, co_changed, sub_changed}
 use native.Mathlib.Nat.{div-eq_of_lt}
 use Rattle.station.specs.declared.coordinator.CoordinatorEntry.TheVariants.{Open}
 use lib.ListN.{get_or-append}
@@ -34,6 +34,7 @@ use Rattle.assurance.proofs.Rules.{members_below}
 use Rattle.assurance.proofs.Moves.{presumes, Within, members_as, Good, Becomes}
 use Rattle.assurance.proofs.Performed.{shape_turn}
 use Rattle.assurance.proofs.View.{fun_at}
+use Rattle.std.proofs.Math.Bool.{and_comm}
 
 -- a station is among some
 abbrev pub among : ℕ → List ℕ → Bool
@@ -116,25 +117,19 @@ activated_shape n r c (m ∷ ms) u h k = activated_shape n r c ms (with_stations
 pub powers : (n : ℕ) (st : State) (ms : List ℕ) → AllByRecursion (λ (m : ℕ). m < n) ms → ideal.all_powered ms (view n st) ≡ all_power st.stations ms
 unfolding all_power
 powers n st [] h = refl
-powers n st (m ∷ ms) h = λ i. cond (lt_true m n h.0 i) (power_at st.stations m) true && powers n st ms h.1 i
+powers n st (m ∷ ms) h = λ i. cond (lt-ltb m n h.0 i) (power_at st.stations m) true && powers n st ms h.1 i
 
 -- a set of stations below n
 below_as : (n m : ℕ) → eqb (m / 2 ^ n) 0 ≡ ltb m (2 ^ n)
 below_as n m =
     elim (cases_lt m (2 ^ n)) [
-      | inl l ↦ ap (λ (k : ℕ). eqb k 0) (div-eq_of_lt l) ∙ sym (lt_true _ _ l)
-      | inr l ↦ (let q : 1 ≤ m / 2 ^ n = (le-div_iff_mul-le (pow_pos n)).1 (subst (λ (x : ℕ). x ≤ m) (sym (one-mul (2 ^ n))) l) in ne_eqb (m / 2 ^ n) 0 (λ z. omega arith) ∙ sym (lt_false m (2 ^ n) l))
+      | inl l ↦ ap (λ (k : ℕ). eqb k 0) (div-eq_of_lt l) ∙ sym (lt-ltb _ _ l)
+      | inr l ↦ (let q : 1 ≤ m / 2 ^ n = (le-div_iff_mul-le (pow_pos n)).1 (subst (λ (x : ℕ). x ≤ m) (sym (one-mul (2 ^ n))) l) in ne_eqb (m / 2 ^ n) 0 (λ z. omega arith) ∙ sym (le-ltb m (2 ^ n) l))
     ]
-
-swap : (a b : Bool) → (a && b) ≡ (b && a)
-swap true true = refl
-swap true false = refl
-swap false true = refl
-swap false false = refl
 
 pub fits_as : (n c : ℕ) (x : StationSet) → (ltb c n && (not (empty x) && below x n)) ≡ ideal.fits n c x.bits
 unfolding ideal.fits
-fits_as n c x = ap (λ (b : Bool). ltb c n && (not (empty x) && b)) (below_as n x.bits) ∙ ap (λ (b : Bool). ltb c n && b) (swap (not (empty x)) (ltb x.bits (2 ^ n)))
+fits_as n c x = ap (λ (b : Bool). ltb c n && (not (empty x) && b)) (below_as n x.bits) ∙ ap (λ (b : Bool). ltb c n && b) (and_comm (not (empty x)) (ltb x.bits (2 ^ n)))
 
 -- a row more
 row_far : (l : List Row) (x : Row) (q : ℕ) → (length l ≡ q → ⊥) → row_at (l ++ (x ∷ [])) q ≡ row_at l q
@@ -230,7 +225,7 @@ module _ (π : Answers) (𝓗 : Lawful π) (n : ℕ) (two : 2 ≤ n) (eight : n 
     Log = st.store.log ++ (row c x ∷ [])
 
     whole : with_row c x st.store ≡ store st.store.journal st.store.post Log
-    whole = cond-true (ltb R 32) _ _ (lt_true R 32 l)
+    whole = cond-true (ltb R 32) _ _ (lt-ltb R 32 l)
 
     log_open : parts n st.store.journal st.store.post Log Y.stations ≡ ideal.upon_open c x.bits V
     log_open =
@@ -273,7 +268,7 @@ module _ (π : Answers) (𝓗 : Lawful π) (n : ℕ) (two : 2 ≤ n) (eight : n 
 
   sized : ideal.fits n c x.bits ≡ true → (c < n) × (x.bits < 2 ^ n) × (x.bits ≡ 0 → ⊥)
   unfolding ideal.fits
-  sized e = let p = and_parts (ltb c n) (ltb x.bits (2 ^ n) && not (eqb x.bits 0)) e in let q = and_parts (ltb x.bits (2 ^ n)) (not (eqb x.bits 0)) p.1 in (true_lt _ _ p.0, true_lt _ _ q.0, λ z. true≢false (sym (eq-eqb x.bits 0 z) ∙ not-true _ q.1))
+  sized e = let p = and_parts (ltb c n) (ltb x.bits (2 ^ n) && not (eqb x.bits 0)) e in let q = and_parts (ltb x.bits (2 ^ n)) (not (eqb x.bits 0)) p.1 in (ltb-true _ _ p.0, ltb-true _ _ q.0, λ z. true≢false (sym (eq-eqb x.bits 0 z) ∙ not-true _ q.1))
 
   pub open_view : To (open_call c x st).state (ideal.call Q (ideal.open_revision c x.bits) V)
   open_view =
@@ -291,7 +286,7 @@ module _ (π : Answers) (𝓗 : Lawful π) (n : ℕ) (two : 2 ≤ n) (eight : n 
           let k = sized f in
           let w : Within n x.bits = λ t m. mem_below n x.bits t k.1 m in
           let on : ((V.station c).power && ideal.all_powered (ideal.members n x.bits) V) ≡ d =
-          (λ i. cond (lt_true c n k.0 i) (power_at st.stations c) true && (powers n st (ideal.members n x.bits) (members_below n x.bits) ∙ ap (all_power st.stations) (sym (members_as n x eight w))) i) ∙ r in
+          (λ i. cond (lt-ltb c n k.0 i) (power_at st.stations c) true && (powers n st (ideal.members n x.bits) (members_below n x.bits) ∙ ap (all_power st.stations) (sym (members_as n x eight w))) i) ∙ r in
           subst (λ (m : Bool). To (cond d (cond e (reply (answered R) (opened c x st)) (refuse 5 st)) (refuse 4 st)).state (cond (m && (e && ((V.station c).power && ideal.all_powered (ideal.members n x.bits) V))) (ideal.upon_open c x.bits V) V)) (sym f)
           (subst (λ (m : Bool). To (cond d (cond e (reply (answered R) (opened c x st)) (refuse 5 st)) (refuse 4 st)).state (cond (e && m) (ideal.upon_open c x.bits V) V)) (sym on)
           (last d e z k w))
@@ -300,4 +295,4 @@ module _ (π : Answers) (𝓗 : Lawful π) (n : ℕ) (two : 2 ≤ n) (eight : n 
           last false false z k w = (refl, g.shape)
           last false true z k w = (refl, g.shape)
           last true false z k w = (refl, g.shape)
-          last true true z k w = opens k.0 w (true_lt _ _ z) k.2
+          last true true z k w = opens k.0 w (ltb-true _ _ z) k.2

@@ -1,11 +1,9 @@
 -- Acts, turns, cuts and whole steps of a run do to its view what the ideal run does.
-use Rattle.std.proofs.Common.{◌≡◌, ℕ, ◌^◌, ◌<◌, ◌≤◌, Bool, true, false, cond, eqb, ltb, List, [], ◌∷◌, ◌++◌, map, length, get_or, take, set, replicate, sym, refl, ap, ◌∙◌, subst, inl, inr, arith, length-append, length-set, get_or-set_other, get_or-set_same}
+use Rattle.std.proofs.Common.{◌≡◌, ℕ, ◌^◌, ◌<◌, ◌≤◌, Bool, true, false, cond, eqb, ltb, List, [], ◌∷◌, ◌++◌, length, get_or, take, set, replicate, sym, refl, ap, ◌∙◌, subst, inl, inr, arith, length-append, length-set, get_or-set_other, get_or-set_same}
 use mathlib.Core.Path.{fun_ext}
 use lib.Bits.{bit_or}
-use lib.ListN.{length-map}
-use Rattle.std.proofs.lemmas.Bool.Decides.{nat_tests}
-use Rattle.std.proofs.lemmas.Bool.{cond-true, cond-false, cases_eq, cases_lt, eq-eqb}
-use Rattle.std.proofs.lemmas.List.{map_push, take-map, get_or_past}
+use Rattle.std.proofs.lemmas.Bool.{cond-true, cases_eq, cases_lt, eq-eqb, lt-ltb}
+use Rattle.std.proofs.lemmas.List.{get_or_past}
 use Rattle.std.specs.List.{AllByRecursion}
 use Rattle.journal.specs.Meaning.{Section, section, held, changed, write_answer, written, cut_to, put, force_all, keep_first}
 use Rattle.journal.specs.declared.records.Record.{Record}
@@ -13,10 +11,8 @@ use Rattle.presumption.specs.declared.outcome.Outcome.{Outcome}
 use Rattle.presumption.specs.declared.outcome.Outcome.TheVariants as outcome
 use Rattle.station.specs.Acts.{Act, write, force, post, mark_installed, mark_dropped}
 use Rattle.station.specs.Sets.{of_bits, single}
-use Rattle.station.specs.declared.messages.Message.{Message}
 use Rattle.station.specs.declared.sets.StationSet.{StationSet}
 use Rattle.actor.specs.Log.{row_at, row, mark_row, marked}
-use Rattle.actor.specs.Post.{posted}
 use Rattle.actor.specs.Store.{Store, store, done, all_done, journal_cut}
 use Rattle.actor.specs.declared.log.Row.{Row}
 use Rattle.run.specs.State.{State, with_store, with_stations, cut_off}
@@ -31,21 +27,14 @@ use Rattle.actor.specs.Store.{burns}
 use Rattle.std.proofs.ByRecursion.{All-take}
 use lib.ListN.{get_or-replicate, length-replicate}
 use Rattle.assurance.specs.Writes.{Accepts, Accepted}
-use Rattle.assurance.proofs.Tidy.{local, locals, at_act}
 use Rattle.assurance.proofs.Room.{records, grows, grows_take}
-use Rattle.assurance.proofs.View.{record_as, message_as, co_as, sub_as, act_as, turn_as, station_as, net_of, parts, view, Shape, fun_at, co_changed, sub_changed, record_here, record_there, station_here, station_there}
-
-pub map_join : {X Y : Type 0} (f : X → Y) (xs ys : List X) → map f (xs ++ ys) ≡ map f xs ++ map f ys
-map_join f [] ys = refl
-map_join f (x ∷ xs) ys = ap (λ l. f x ∷ l) (map_join f xs ys)
+use Rattle.assurance.proofs.View.{co_as, turn_as, station_as, net_of, parts, view, Shape, fun_at, record_here, record_there, station_here, station_there, co_changed, sub_changed}
+use Rattle.assurance.proofs.Local.{local, locals, at_act}
 
 -- a write that there is room for
 answers_0 : (j : List Section) (s : ℕ) → s < length j → held (section j s) < (section j s).capacity → write_answer j s ≡ 0
-answers_0 j s h k = ok (ltb s (length j)) (ltb (held (section j s)) (section j s).capacity) (lt _ _ h) (lt _ _ k)
+answers_0 j s h k = ok (ltb s (length j)) (ltb (held (section j s)) (section j s).capacity) (lt-ltb _ _ h) (lt-ltb _ _ k)
   where
-    lt : (a b : ℕ) → a < b → ltb a b ≡ true
-    lt a b h = grind (arith, nat_tests)
-
     ok : (a b : Bool) → a ≡ true → b ≡ true → ◌≡◌ {A = ℕ} (cond a (cond b 0 12) 11) 0
     ok a b p q = rw (p, q) refl
 
@@ -72,15 +61,8 @@ module _ (n : ℕ) where
       (ap (λ (p : Section). station_as n s p (station_at xs s)) (record_here j f s (omega (arith, k.journals))) ∙ e (section j s) (station_at xs s))
       (λ t d. ap (λ (p : Section). station_as n t p (station_at xs t)) (record_there j f s t d))
 
-  post_view : (m : Message) (p : List Message) → map message_as (posted m p) ≡ cond (ltb (length (map message_as p)) 64) (map message_as p ++ (message_as m ∷ [])) (map message_as p)
-  post_view m p = go (ltb (length p) 64) ∙ ap (λ (k : ℕ). cond (ltb k 64) (map message_as p ++ (message_as m ∷ [])) (map message_as p)) (sym (length-map p message_as))
-    where
-      go : (b : Bool) → map message_as (cond b (p ++ (m ∷ [])) p) ≡ cond b (map message_as p ++ (message_as m ∷ [])) (map message_as p)
-      go true = map_push message_as p m
-      go false = refl
-
   pub single_is : (s : ℕ) → s < 8 → single s ≡ 2 ^ s
-  single_is s h = cond-true (ltb s 8) _ _ (grind (arith, nat_tests))
+  single_is s h = cond-true (ltb s 8) _ _ (lt-ltb s 8 h)
 
   row_here : (o : Outcome) (r s : ℕ) (l : List Row) → r < length l → row_at (marked o r s l) r ≡ mark_row o s (row_at l r)
   row_here o r s l h = get_or-set_same l r (mark_row o s (row_at l r)) (row 0 (of_bits 0)) h
@@ -96,20 +78,17 @@ module _ (n : ℕ) where
         | inr z ↦ ap g (row_there o r s l q z)
       ]
 
-  pub act_view : (s : ℕ) (a : Act) (st : State) → s < n → Shape n st → Can st s a → view n (with_store (done s a st.store) st) ≡ ideal.act_done s (act_as a) (view n st)
+  pub act_view : (s : ℕ) (a : Act) (st : State) → s < n → Shape n st → Can st s a → view n (with_store (done s a st.store) st) ≡ ideal.act_done s a (view n st)
   unfolding done ideal.with_station
   act_view s (write x) st h k c =
       let j = st.store.journal in
       ap (λ (m : List Section). parts n m st.store.post st.store.log st.stations) (written_is x j s (omega (arith, k.journals)) (omega (arith, k.wide s h)))
       ∙ ap (λ (f : ℕ → ideal.Station). record { station = f; post = (view n st).post; plan = (view n st).plan; count = (view n st).count; installed_at = (view n st).installed_at; dropped_at = (view n st).dropped_at })
-      (in_section (put x) (ideal.written_station (record_as x)) s st h k
-      (λ p y. ap (λ (l : List ideal.Record). record { power = (station_as n s p y).power; stable = (station_as n s p y).stable; loose = l; coordinators = (station_as n s p y).coordinators; subordinates = (station_as n s p y).subordinates }) (map_push record_as p.unforced x)))
+      (in_section (put x) (ideal.written_station x) s st h k (λ p y. refl))
   act_view s force st h k c =
       ap (λ (f : ℕ → ideal.Station). record { station = f; post = (view n st).post; plan = (view n st).plan; count = (view n st).count; installed_at = (view n st).installed_at; dropped_at = (view n st).dropped_at })
-      (in_section force_all ideal.forced_station s st h k
-      (λ p y. ap (λ (l : List ideal.Record). record { power = (station_as n s p y).power; stable = l; loose = []; coordinators = (station_as n s p y).coordinators; subordinates = (station_as n s p y).subordinates }) (map_join record_as p.stable p.unforced)))
-  act_view s (post m) st h k c =
-      ap (λ (l : List ideal.Message). record { station = (view n st).station; post = l; plan = (view n st).plan; count = (view n st).count; installed_at = (view n st).installed_at; dropped_at = (view n st).dropped_at }) (post_view m st.store.post)
+      (in_section force_all ideal.forced_station s st h k (λ p y. refl))
+  act_view s (post m) st h k c = refl
   act_view s (mark_installed r) st h k c =
       let l = st.store.log in
       λ i. record {
@@ -183,24 +162,20 @@ module _ (n : ℕ) where
 
   -- the marks of a list of acts are for logged revisions
   abbrev pub Logged : ℕ → Act → Type 0
-  Logged c (write x) = Unit {0}
-  Logged c force = Unit {0}
-  Logged c (post m) = Unit {0}
   Logged c (mark_installed r) = r < c
   Logged c (mark_dropped r) = r < c
+  Logged c a = Unit {0}
 
   log_kept : (s : ℕ) (a : Act) (w : Store) → length (done s a w).log ≡ length w.log
   unfolding done
-  log_kept s (write x) w = refl
-  log_kept s force w = refl
-  log_kept s (post m) w = refl
   log_kept s (mark_installed r) w = length-set w.log r _
   log_kept s (mark_dropped r) w = length-set w.log r _
+  log_kept s a w = refl
 
-  can : (s : ℕ) (a : Act) (l : List Act) (st : State) → Logged (length st.store.log) a → records (locals (map act_as (a ∷ l)) ((view n st).station s)) ≤ 160 → Can st s a
+  can : (s : ℕ) (a : Act) (l : List Act) (st : State) → Logged (length st.store.log) a → records (locals (a ∷ l) ((view n st).station s)) ≤ 160 → Can st s a
   can s (write x) l st g h =
       let y = (view n st).station s in
-      omega (arith, grows (map act_as l) (ideal.written_station (record_as x) y), length-append y.loose (record_as x ∷ []), length-map (section st.store.journal s).stable record_as, length-map (section st.store.journal s).unforced record_as, h)
+      omega (arith, grows l (ideal.written_station x y), length-append y.loose (x ∷ []), h)
   can s force l st g h = tt
   can s (post m) l st g h = tt
   can s (mark_installed r) l st g h = g
@@ -208,25 +183,22 @@ module _ (n : ℕ) where
 
   accepts : (s : ℕ) (a : Act) (st : State) → s < n → Shape n st → Can st s a → Accepts s a st.store
   accepts s (write x) st h k c = answers_0 st.store.journal s (omega (arith, k.journals)) (omega (arith, k.wide s h))
-  accepts s force st h k c = tt
-  accepts s (post m) st h k c = tt
-  accepts s (mark_installed r) st h k c = tt
-  accepts s (mark_dropped r) st h k c = tt
+  accepts s a st h k c = tt
 
   -- a list of acts, every write of which is accepted
-  pub acts_view : (s : ℕ) (l : List Act) (st : State) → s < n → Shape n st → AllByRecursion (Logged (length st.store.log)) l → records (locals (map act_as l) ((view n st).station s)) ≤ 160
-      → (view n (with_store (all_done s l st.store) st) ≡ ideal.acts_done s (map act_as l) (view n st)) × Shape n (with_store (all_done s l st.store) st) × Accepted s l st.store
+  pub acts_view : (s : ℕ) (l : List Act) (st : State) → s < n → Shape n st → AllByRecursion (Logged (length st.store.log)) l → records (locals l ((view n st).station s)) ≤ 160
+      → (view n (with_store (all_done s l st.store) st) ≡ ideal.acts_done s l (view n st)) × Shape n (with_store (all_done s l st.store) st) × Accepted s l st.store
   unfolding all_done
   acts_view s [] st h k g b = (refl, record { fit = k.fit; some = k.some; small = k.small; stations = k.stations; journals = k.journals; wide = k.wide; entries = k.entries; sets = k.sets }, tt)
   acts_view s (a ∷ l) st h k g b =
       let c = can s a l st g.0 b in
       let u = with_store (done s a st.store) st in
       let e = act_view s a st h k c in
-      let here : (view n u).station s ≡ local (act_as a) ((view n st).station s) = ap (λ (v : ideal.Run). v.station s) e ∙ (at_act s s (act_as a) (view n st) ∙ cond-true (eqb s s) _ _ (eq-eqb s s refl)) in
+      let here : (view n u).station s ≡ local a ((view n st).station s) = ap (λ (v : ideal.Run). v.station s) e ∙ (at_act s s a (view n st) ∙ cond-true (eqb s s) _ _ (eq-eqb s s refl)) in
       let more = acts_view s l u h (shape_act s a st h k c)
       (subst (λ (c : ℕ). AllByRecursion (Logged c) l) (sym (log_kept s a st.store)) g.1)
-      (subst (λ (y : ideal.Station). records (locals (map act_as l) y) ≤ 160) (sym here) b) in
-      (more.0 ∙ ap (ideal.acts_done s (map act_as l)) e, more.1, (accepts s a st h k c, more.2))
+      (subst (λ (y : ideal.Station). records (locals l y) ≤ 160) (sym here) b) in
+      (more.0 ∙ ap (ideal.acts_done s l) e, more.1, (accepts s a st h k c, more.2))
 
   -- another entry of a station
   pub in_stations : (x : Station) (y : ideal.Station) (s : ℕ) (st : State) → s < n → Shape n st → station_as n s (section st.store.journal s) x ≡ y
@@ -248,7 +220,7 @@ module _ (n : ℕ) where
       let x = station_at st.stations s in
       let y = (view n st).station s in
       ap (λ (f : ℕ → ideal.Station). record { station = f; post = (view n st).post; plan = (view n st).plan; count = (view n st).count; installed_at = (view n st).installed_at; dropped_at = (view n st).dropped_at })
-      (in_stations (set_subordinate r e x) (ideal.set_subordinate r (sub_as e) y) s st h k (sub_changed n s r (section st.store.journal s) x (omega (arith, k.entries s h)) e))
+      (in_stations (set_subordinate r e x) (ideal.set_subordinate r e y) s st h k (sub_changed n s r (section st.store.journal s) x (omega (arith, k.entries s h)) e))
 
   -- a station put in another's place, with entries for every revision
   station_kept : {X : Type 0} (g : Station → X) (a : X) (xs : List Station) (x : Station) (s t : ℕ) → s < length xs → g x ≡ a → g (station_at xs t) ≡ a → g (station_at (set xs s x) t) ≡ a
@@ -282,15 +254,12 @@ module _ (n : ℕ) where
   unfolding blank
   cut_station s k p x h =
       λ i. record {
-        power = cond-true (ltb s n) false true (lt h) i;
-        stable = (map_join record_as p.stable (take k p.unforced) ∙ ap (λ (l : List ideal.Record). map record_as p.stable ++ l) (sym (take-map record_as k p.unforced))) i;
+        power = cond-true (ltb s n) false true (lt-ltb s n h) i;
+        stable = p.stable ++ take k p.unforced;
         loose = [];
         coordinators = λ r. co_as (same_entry 32 r no_entries i).coordinator;
-        subordinates = λ r. sub_as (same_entry 32 r no_entries i).subordinate;
+        subordinates = λ r. (same_entry 32 r no_entries i).subordinate;
       }
-    where
-      lt : s < n → ltb s n ≡ true
-      lt h = grind (arith, nat_tests)
 
   pub cut_view : (s k : ℕ) (st : State) → s < n → Shape n st → view n (cut_off s k st) ≡ ideal.at_station s (ideal.cut_station k) (view n st)
   unfolding journal_cut
@@ -314,16 +283,15 @@ module _ (n : ℕ) where
   shape_cut s k st h q = shape_station (blank false) s (with_store (journal_cut s k st.store) st) h (blank_entries false) (shape_section (keep_first k) s st h (λ p. refl) q)
 
   -- a whole step, under any fuse
-  pub step_view : (s r : ℕ) (l : List Act) (tn : Turn) (f k : ℕ) (st : State) → s < n → r < 32 → Shape n st → AllByRecursion (Logged (length st.store.log)) l → records (locals (map act_as l) ((view n st).station s)) ≤ 160
-      → (view n (stepped s r l tn f k st) ≡ ideal.step s (map act_as l) (turn_as r tn) f k (view n st)) × Shape n (stepped s r l tn f k st) × Accepted s l st.store
+  pub step_view : (s r : ℕ) (l : List Act) (tn : Turn) (f k : ℕ) (st : State) → s < n → r < 32 → Shape n st → AllByRecursion (Logged (length st.store.log)) l → records (locals l ((view n st).station s)) ≤ 160
+      → (view n (stepped s r l tn f k st) ≡ ideal.step s l (turn_as r tn) f k (view n st)) × Shape n (stepped s r l tn f k st) × Accepted s l st.store
   unfolding stepped
-  step_view s r l tn f k st h lr q g b = let p = go (burns f l) refl in (p.0, p.1, all_acts.2)
+  step_view s r l tn f k st h lr q g b = let p = go (burns f l) in (p.0, p.1, all_acts.2)
     where
-      some_acts : (view n (with_store (all_done s (take f l) st.store) st) ≡ ideal.acts_done s (map act_as (take f l)) (view n st)) × Shape n (with_store (all_done s (take f l) st.store) st) × Accepted s (take f l) st.store
-      some_acts = acts_view s (take f l) st h q (All-take _ f l g)
-          (subst (λ (m : List ideal.Act). records (locals m ((view n st).station s)) ≤ 160) (take-map act_as f l) (omega (arith, grows_take f (map act_as l) ((view n st).station s), b)))
+      some_acts : (view n (with_store (all_done s (take f l) st.store) st) ≡ ideal.acts_done s (take f l) (view n st)) × Shape n (with_store (all_done s (take f l) st.store) st) × Accepted s (take f l) st.store
+      some_acts = acts_view s (take f l) st h q (All-take _ f l g) (omega (arith, grows_take f l ((view n st).station s), b))
 
-      all_acts : (view n (with_store (all_done s l st.store) st) ≡ ideal.acts_done s (map act_as l) (view n st)) × Shape n (with_store (all_done s l st.store) st) × Accepted s l st.store
+      all_acts : (view n (with_store (all_done s l st.store) st) ≡ ideal.acts_done s l (view n st)) × Shape n (with_store (all_done s l st.store) st) × Accepted s l st.store
       all_acts = acts_view s l st h q g b
 
       u : State
@@ -332,18 +300,6 @@ module _ (n : ℕ) where
       v : State
       v = with_store (all_done s l st.store) st
 
-      long : length (map act_as l) ≡ length l
-      long = length-map l act_as
-
-      go : (c : Bool) → burns f l ≡ c → (view n (cond c (cut_off s k u) (with_stations (turn_entry s r tn v.stations) v)) ≡ ideal.step s (map act_as l) (turn_as r tn) f k (view n st)) × Shape n (cond c (cut_off s k u) (with_stations (turn_entry s r tn v.stations) v))
-      go true e = (
-        cut_view s k u h some_acts.1
-            ∙ (ap (ideal.at_station s (ideal.cut_station k)) (some_acts.0 ∙ ap (λ (m : List ideal.Act). ideal.acts_done s m (view n st)) (sym (take-map act_as f l)))
-            ∙ sym (cond-true (ltb f (length (map act_as l))) _ _ (ap (ltb f) long ∙ e))),
-        shape_cut s k u h some_acts.1,
-      )
-      go false e = (
-        turn_view s r tn v h lr all_acts.1
-            ∙ (ap (ideal.turn s (turn_as r tn)) all_acts.0 ∙ sym (cond-false (ltb f (length (map act_as l))) _ _ (ap (ltb f) long ∙ e))),
-        shape_turn s r tn v h all_acts.1,
-      )
+      go : (c : Bool) → (view n (cond c (cut_off s k u) (with_stations (turn_entry s r tn v.stations) v)) ≡ cond c (ideal.at_station s (ideal.cut_station k) (ideal.acts_done s (take f l) (view n st))) (ideal.turn s (turn_as r tn) (ideal.acts_done s l (view n st)))) × Shape n (cond c (cut_off s k u) (with_stations (turn_entry s r tn v.stations) v))
+      go true = (cut_view s k u h some_acts.1 ∙ ap (ideal.at_station s (ideal.cut_station k)) some_acts.0, shape_cut s k u h some_acts.1)
+      go false = (turn_view s r tn v h lr all_acts.1 ∙ ap (ideal.turn s (turn_as r tn)) all_acts.0, shape_turn s r tn v h all_acts.1)

@@ -7,7 +7,7 @@ use Rattle.run.specs.Answers.{answered}
 use Rattle.run.specs.Calls.{reply, refuse, coordinator_entry}
 use Rattle.assurance.specs.declared.calls.Call.{Call}
 use Rattle.assurance.specs.declared.calls.Call.TheVariants.{GiveUp, Chase, Inquire, Deliver, Settle}
-use Rattle.assurance.specs.Lists.{called, after_calls}
+use Rattle.assurance.specs.Lists.{lasting, called, after_calls}
 use Rattle.run.specs.Settling.{Progress, progress, first_delivered, delivered, drained, urged, inquired, urging, inquiring, resolved, finished, all_finished, settled, load}
 use Rattle.run.specs.State.{State}
 use Rattle.stations.specs.Stations.{all_power, subordinate_at}
@@ -41,7 +41,7 @@ module _ (π : Answers) where
   delivers (suc k) x = go (delivers k (first_delivered π x)) (ltb 0 (length x.state.store.post))
     where
       go : Leads (first_delivered π x).state (delivered π k (first_delivered π x)).state → (b : Bool) → Leads x.state (cond b (delivered π k (first_delivered π x)) x).state
-      go more true = onward x.state (first_delivered π x).state (delivered π k (first_delivered π x)).state (by_call (Deliver 0 false 255 0) tt x.state) more
+      go more true = onward x.state (first_delivered π x).state (delivered π k (first_delivered π x)).state (by_call (Deliver 0 false lasting) tt x.state) more
       go more false = stays x.state
 
   drains : (x : Progress) → Leads x.state (drained π x).state
@@ -49,15 +49,13 @@ module _ (π : Answers) where
   drains x = delivers (load 8 x.state.store.post) x
 
   urges : (e : CoordinatorEntry) (r : ℕ) (st : State) → Leads st (urged π e r st)
-  urges coordinator.None r st = stays st
-  urges (coordinator.Open a) r st = stays st
-  urges (coordinator.Collecting a y) r st = by_call (GiveUp r 255 0) tt st
-  urges (coordinator.Announcing o w) r st = by_call (Chase r 255 0) tt st
+  urges (coordinator.Collecting a y) r st = by_call (GiveUp r lasting) tt st
+  urges (coordinator.Announcing o w) r st = by_call (Chase r lasting) tt st
+  urges e r st = stays st
 
   inquires : (e : SubordinateEntry) (r s : ℕ) (st : State) → Leads st (inquired π e r s st)
-  inquires subordinate.None r s st = stays st
-  inquires (subordinate.Active c) r s st = stays st
-  inquires (subordinate.Prepared c) r s st = by_call (Inquire r s 255 0) tt st
+  inquires (subordinate.Prepared c) r s st = by_call (Inquire r s lasting) tt st
+  inquires e r s st = stays st
 
   -- a progress, then the post emptied
   then_drains : (x y : Progress) → Leads x.state y.state → Leads x.state (drained π y).state

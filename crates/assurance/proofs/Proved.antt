@@ -1,7 +1,7 @@
 -- The claims, proved.
-use Rattle.std.proofs.Common.{ℕ, List, sym, refl, ◌∙◌}
+use Rattle.std.proofs.Common.{ℕ, List, sym, refl, ◌∙◌, [], ◌∷◌}
 use Rattle.std.proofs.lemmas.Bool.{true≢false}
-use Rattle.assurance.proofs.Ideal.{kC, Run, Presumption, Call, calls}
+use Rattle.assurance.proofs.Ideal.{kC, Run, Presumption, Call, calls, open_revision, close}
 use Rattle.assurance.proofs.Lasting.{world, head}
 use Rattle.assurance.proofs.Sets.{mem_zero}
 use Rattle.assurance.proofs.Claims.{Laws, Agreed, Known, Together, new}
@@ -41,10 +41,10 @@ known π 𝓛 cs =
     let h = full_calls π 𝓛 cs new (full_new π 𝓛 (begin π 𝓛)) in
     record {
       agreed = agreed π 𝓛 u h.inv.safe;
-      later = λ more r s t d. (agreed π 𝓛 (calls π more u) (full_calls π 𝓛 more u h).inv.safe r).never s t (drp_calls π 𝓛 r s more u d);
+      later = λ more r s t d. (agreed π 𝓛 (calls π more u) (full_calls π 𝓛 more u h).inv.safe r).never s t (drp_calls π 𝓛 r s more u h d);
       room = room_all π 𝓛 u h;
       settling = λ on. (quiet_settle π 𝓛 u h on, (made_settled π 𝓛 u).1);
     }
 
 pub together : Together
-together π 𝓛 = record { always = known π 𝓛; once = λ c all ok. once π 𝓛 c all ok (begin π 𝓛) }
+together π 𝓛 = record { always = known π 𝓛; once = λ c all ok. once π 𝓛 c all ok (full_calls π 𝓛 (open_revision c all ∷ (close 0 255 0 ∷ [])) new (full_new π 𝓛 (begin π 𝓛))).inv }

@@ -4,7 +4,7 @@ use Rattle.std.specs.List.{AllByRecursion}
 use Rattle.std.proofs.ByRecursion.{All-push, All-append, All-take}
 use Rattle.std.proofs.lemmas.Bool.Decides.{nat_tests}
 use Rattle.std.proofs.lemmas.Bool.{or_from, or_left, cond_both, cond-false, cases_Bool, eqb-true}
-use Rattle.assurance.proofs.Ideal.{updated, in_set, with_station, Kind, kC, kp, kc, ka, Record, is, has, CoordinatorEntry, SubordinateEntry, idle, Active, Prepared, Station, Message, Run, Presumption, at_station, written_station, forced_station, cut_station, set_coordinator, set_subordinate, with_message, marked_installed, marked_dropped}
+use Rattle.assurance.proofs.Ideal.{updated, in_set, with_station, Kind, kC, kp, kc, ka, Record, is, has, CoordinatorEntry, SubordinateEntry, Active, Station, Message, Run, Presumption, at_station, written_station, forced_station, cut_station, set_coordinator, set_subordinate, with_message, marked_installed, marked_dropped}
 use Rattle.assurance.proofs.Lasting.{upd_keep, has_append, has_take, Past, Inactive, Idle, Shut, Keeps, world, Grow, Comm, Abort, Legal, RecLegal, CoLegal, SubLegal, Safe, co_grows, sub_grows, recs_grow, safe_local}
 
 pub upd_same : {X : Type 0} (f : ℕ → X) (i : ℕ) (v : X) → updated f i v i ≡ v
@@ -14,9 +14,8 @@ pub upd_cases : {X : Type 0} (f : ℕ → X) (i : ℕ) (v : X) (j : ℕ) → (i 
 upd_cases f i v j = elim (cases_Bool (eqb i j)) [ inl e ↦ inl (eqb-true i j e) | inr e ↦ inr (cond-false (eqb i j) v (f j) e) ]
 
 pub idle_inactive : (e : SubordinateEntry) → Idle e → Inactive e
-idle_inactive idle h = tt
 idle_inactive (Active c) h = h
-idle_inactive (Prepared c) h = tt
+idle_inactive e h = tt
 
 pub no_push : (k : Kind) (r : ℕ) (x : Record) (l : List Record) → has k r l ≡ false → is k r x ≡ false → has k r (l ++ (x ∷ [])) ≡ false
 no_push k r x l h e = has_append k r l (x ∷ []) ∙ or_from _ _ h (or_from _ _ e refl)

@@ -1,17 +1,18 @@
 -- YES, close, chase, inquire and restart keep the invariant between acts.
 use Rattle.std.proofs.Common.{◌≡◌, ℕ, ◌<◌, true, false, not, ◌&&◌, ◌||◌, eqb, List, [], ◌∷◌, sym, refl, ap, ◌∙◌, subst, inl, inr, arith}
 use Rattle.std.proofs.lemmas.Bool.{cond_both, true≢false, eqb-true, eq-eqb, ne_eqb, and_parts}
-use Rattle.assurance.proofs.Ideal.{in_set, with_station, members, kI, kC, kA, kE, kp, kc, ka, Record, has, argument_of, Outcome, commit, abort, CoordinatorEntry, none, Open, Collecting, Announcing, SubordinateEntry, idle, Active, Prepared, Station, MessageKind, PREPARE, COMMIT, ABORT, INQUIRY, Run, Presumption, at_station, written_station, forced_station, set_coordinator, with_message, write, force, send, acts_done, stay, to_coordinator, turn, step, line, letter, send_each, await, commit_acts, upon_yes, upon_close, upon_chase, upon_inquire, doubtful, outcome_of, resumed, restarted_station}
+use Rattle.assurance.proofs.Ideal.{in_set, with_station, members, kI, kC, kA, kE, kp, kc, ka, Record, has, argument_of, Outcome, commit, abort, CoordinatorEntry, none, Open, Collecting, Announcing, SubordinateEntry, idle, Prepared, Station, MessageKind, PREPARE, COMMIT, ABORT, INQUIRY, Run, Presumption, at_station, written_station, forced_station, set_coordinator, with_message, write, force, send, acts_done, stay, to_coordinator, turn, step, line, letter, send_each, await, commit_acts, upon_yes, upon_close, upon_chase, upon_inquire, doubtful, outcome_of, resumed, restarted_station}
 use Rattle.assurance.proofs.Lasting.{Got, Past, Inactive, Shut, Doom, Keeps, World, world, Grow, head, Named, Comm, Opened, Legal, CoLegal, SubLegal, opened_grows, recs_grow}
 use Rattle.assurance.proofs.SafeActs.{SafeSt, upd_same, here_in, keeps_co, grow_in, safe_in, safe_co_old}
 use Rattle.assurance.proofs.SafeSteps.{Oks, safe_acts, safe_step, safe_step_mid}
 use Rattle.assurance.proofs.Sets.{mem_add, mem_zero}
 use Rattle.assurance.proofs.Claims.{Laws}
-use Rattle.assurance.proofs.SafeRules.{has_legal, ready_oks, ready_sends, now_forced, forced_got}
+use Rattle.assurance.proofs.SafeRules.{has_legal, ready_oks, now_forced, forced_got, past_await, shut_await, Ready}
+use Rattle.assurance.proofs.Rules.{all_sends}
 
 module _ (π : Presumption) (𝓛 : Laws π) where
-  pub oks_send : (k : MessageKind) (r s : ℕ) (ts : List ℕ) (st : Run) → ((t : ℕ) → Legal π (world st) (letter k r s t)) → Oks π s (send_each k r s ts) st
-  oks_send k r s ts st h = ready_oks π s (send_each k r s ts) st (ready_sends π (world st) k r s h ts)
+  pub oks_send : (k : MessageKind) (r s m : ℕ) (st : Run) → ((t : ℕ) → Legal π (world st) (letter k r s t)) → Oks π s (send_each k r s (members π.size m)) st
+  oks_send k r s m st h = ready_oks π s (send_each k r s (members π.size m)) st (all_sends π (Ready π (world st) s) k r s m (λ t _. h t))
 
   after_sends : (Q : World → Type 0) (k : MessageKind) (r s : ℕ) (ts : List ℕ) (st : Run) → Q (world st) → Q (world (acts_done s (send_each k r s ts) st))
   after_sends Q k r s [] st q = q
@@ -23,19 +24,10 @@ module _ (π : Presumption) (𝓛 : Laws π) where
   co_await : (o : Outcome) (a s r : ℕ) (w : World) → ((a ≡ 0 → ⊥) → CoLegal π w s r (Announcing o a)) → CoLegal π w s r (await o a)
   co_await o a s r w h = cond_both (eqb a 0) none (Announcing o a) (CoLegal π w s r) (λ _. tt) (λ z. h (λ e. true≢false (sym (eq-eqb _ _ e) ∙ z)))
 
-  shut_await : (o : Outcome) (a : ℕ) → Shut (await o a)
-  shut_await o a = cond_both (eqb a 0) none (Announcing o a) Shut (λ _. tt) (λ _. tt)
-
   asked_all : (o : Outcome) (all r : ℕ) (w : World) → all ≡ (w.plan r).names → (t : ℕ) → in_set (π.ackers o all) t ≡ true → Named w r t × (π.acks o t ≡ true)
   asked_all o all r w e t m = let b = 𝓛.backer o all t m in (rw (← e) b.0, b.1)
 
-  past_await : (o : Outcome) (a : ℕ) → Past (await o a)
-  past_await o a = cond_both (eqb a 0) none (Announcing o a) Past (λ _. tt) (λ _. tt)
-
   pub safe_yes : (r s t : ℕ) (e : CoordinatorEntry) (f k : ℕ) (st : Run) → SafeSt π st → Got kp r (st.station t) → (st.station s).coordinators r ≡ e → SafeSt π (upon_yes π r s t e f k st)
-  safe_yes r s t none f k st h v e = h
-  safe_yes r s t (Open all) f k st h v e = h
-  safe_yes r s t (Announcing o aw) f k st h v e = h
   safe_yes r s t (Collecting all ys) f k st h v e =
       cond_both (in_set all t) _ st (SafeSt π)
       (λ _. cond_both (eqb (with_station ys t) all) (step s (commit_acts π r s all) (to_coordinator r (await commit (π.ackers commit all))) f k st) (at_station s (set_coordinator r (Collecting all (with_station ys t))) st) (SafeSt π)
@@ -58,20 +50,18 @@ module _ (π : Presumption) (𝓛 : Laws π) where
       decide : with_station ys t ≡ all → SafeSt π (step s (commit_acts π r s all) (to_coordinator r (await commit (π.ackers commit all))) f k st)
       decide w =
           safe_step π s (commit_acts π r s all) (to_coordinator r (await commit (π.ackers commit all))) f k st h
-          ((λ q _ p. ne_eqb r q (λ i. rw (← i, e) at p), λ _ _ _. refl, (l.0, (l.1, l.2, λ u m. joined r t ys st.station v l.4 u (rw (w, l.2) m)))), (tt, oks_send COMMIT r s (members π.size all) st2 (λ t. (l.0, inl c))))
+          ((λ q _ p. ne_eqb r q (λ i. rw (← i, e) at p), λ _ _ _. refl, (l.0, (l.1, l.2, λ u m. joined r t ys st.station v l.4 u (rw (w, l.2) m)))), (tt, oks_send COMMIT r s all st2 (λ t. (l.0, inl c))))
           (λ h'. safe_co_old π _ s h' r (await commit (π.ackers commit all)) (λ _. past_await commit (π.ackers commit all)) (shut_await commit (π.ackers commit all)) (after_sends (λ v. CoLegal π v s r (await commit (π.ackers commit all))) COMMIT r s (members π.size all) st2 (co_await commit (π.ackers commit all) s r (world st2) lasting)))
+  safe_yes r s t x f k st h v e = h
 
   pub safe_chase : (r s : ℕ) (e : CoordinatorEntry) (f k : ℕ) (st : Run) → SafeSt π st → (st.station s).coordinators r ≡ e → SafeSt π (upon_chase π r s e f k st)
-  safe_chase r s none f k st h e = h
-  safe_chase r s (Open all) f k st h e = h
-  safe_chase r s (Collecting all ys) f k st h e = h
-  safe_chase r s (Announcing commit w) f k st h e = let c = subst (λ v. CoLegal π (world st) s r v) e (h.cos s r) in safe_step π s (send_each COMMIT r s (members π.size w)) stay f k st h (oks_send COMMIT r s (members π.size w) st (λ t. (c.0, inl c.2))) (λ h'. h')
-  safe_chase r s (Announcing abort w) f k st h e = let c = subst (λ v. CoLegal π (world st) s r v) e (h.cos s r) in safe_step π s (send_each ABORT r s (members π.size w)) stay f k st h (oks_send ABORT r s (members π.size w) st (λ t. (c.0, inl (inl c.2)))) (λ h'. h')
+  safe_chase r s (Announcing commit w) f k st h e = let c = subst (λ v. CoLegal π (world st) s r v) e (h.cos s r) in safe_step π s (send_each COMMIT r s (members π.size w)) stay f k st h (oks_send COMMIT r s w st (λ t. (c.0, inl c.2))) (λ h'. h')
+  safe_chase r s (Announcing abort w) f k st h e = let c = subst (λ v. CoLegal π (world st) s r v) e (h.cos s r) in safe_step π s (send_each ABORT r s (members π.size w)) stay f k st h (oks_send ABORT r s w st (λ t. (c.0, inl (inl c.2)))) (λ h'. h')
+  safe_chase r s x f k st h e = h
 
   pub safe_inquire : (r s : ℕ) (e : SubordinateEntry) (f k : ℕ) (st : Run) → SafeSt π st → (st.station s).subordinates r ≡ e → SafeSt π (upon_inquire π r s e f k st)
-  safe_inquire r s idle f k st h e = h
-  safe_inquire r s (Active c) f k st h e = h
   safe_inquire r s (Prepared c) f k st h e = let q = subst (λ v. SubLegal π (world st) s r v) e (h.subs s r) in safe_step π s (send (letter INQUIRY r s c) ∷ []) stay f k st h ((q.0, (q.1, q.2)), tt) (λ h'. h')
+  safe_inquire r s x f k st h e = h
 
   -- PREPAREs leave once the entry is Collecting
   collect : (r s all : ℕ) (u : Run) → SafeSt π u → r < u.count → s ≡ (u.plan r).coordinator → all ≡ (u.plan r).names → Opened π (world u) r → (Past ((u.station s).coordinators r) → ⊥) → SafeSt π (turn s (to_coordinator r (Collecting all 0)) u) × Oks π s (send_each PREPARE r s (members π.size all)) (turn s (to_coordinator r (Collecting all 0)) u)
@@ -80,13 +70,10 @@ module _ (π : Presumption) (𝓛 : Laws π) where
       let g = grow_in π u s (set_coordinator r (Collecting all 0)) k in
       let now : Shut (((at_station s (set_coordinator r (Collecting all 0)) u).station s).coordinators r) = rw (here_in s (set_coordinator r (Collecting all 0)) u, upd_same (u.station s).coordinators r (Collecting all 0)) tt in (
         safe_co_old π u s h r (Collecting all 0) (λ p. absurd (live p)) tt (known, own, whole, opened, λ t m. absurd (true≢false (sym m ∙ mem_zero t))),
-        oks_send PREPARE r s (members π.size all) (at_station s (set_coordinator r (Collecting all 0)) u) (λ t. (known, (opened_grows π (world u) (world (at_station s (set_coordinator r (Collecting all 0)) u)) g r known opened, subst (λ (x : ℕ). Shut (((at_station s (set_coordinator r (Collecting all 0)) u).station x).coordinators r)) own now))),
+        oks_send PREPARE r s all (at_station s (set_coordinator r (Collecting all 0)) u) (λ t. (known, (opened_grows π (world u) (world (at_station s (set_coordinator r (Collecting all 0)) u)) g r known opened, subst (λ (x : ℕ). Shut (((at_station s (set_coordinator r (Collecting all 0)) u).station x).coordinators r)) own now))),
       )
 
   pub safe_close : (r s : ℕ) (e : CoordinatorEntry) (f k : ℕ) (st : Run) → SafeSt π st → (st.station s).coordinators r ≡ e → SafeSt π (upon_close π r s e f k st)
-  safe_close r s none f k st h e = h
-  safe_close r s (Collecting all ys) f k st h e = h
-  safe_close r s (Announcing o w) f k st h e = h
   safe_close r s (Open all) f k st h e =
       cond_both (π.opens all) (write (line kI r all) ∷ (force ∷ send_each PREPARE r s (members π.size all))) (send_each PREPARE r s (members π.size all)) (λ a. SafeSt π (step s a (to_coordinator r (Collecting all 0)) f k st))
       (λ _. let o2 : Oks π s (write (line kI r all) ∷ (force ∷ [])) st = ((λ _ _ _. refl, λ _ _ _. refl, (l.0, (l.1, l.2))), (tt, tt)) in
@@ -106,6 +93,7 @@ module _ (π : Presumption) (𝓛 : Laws π) where
 
       never : π.opens all ≡ false → Opened π (world st) r
       never o p = absurd (true≢false (sym p ∙ (ap π.opens (sym l.2) ∙ o)))
+  safe_close r s x f k st h e = h
 
   past_resumed : (l : List Record) (r : ℕ) → Past (resumed π l r)
   past_resumed l r = grind arith

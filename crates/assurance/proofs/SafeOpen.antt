@@ -35,7 +35,7 @@ module _ (π : Presumption) (c all : ℕ) (st : Run) (h : SafeSt π st) where
   pub safe_open : SafeSt π (upon_open c all st)
   safe_open =
       record {
-        msgs = All-weaker _ _ (λ m k. (known_grows π w v grow_open m.revision k.0, legal_grows π w v grow_open m.mail m.revision m.from m.to k.0 k.1)) st.post h.msgs;
+        msgs = All-weaker _ _ (λ m k. (known_grows π w v grow_open m.revision k.0, legal_grows π w v grow_open m.kind m.revision m.sender m.receiver k.0 k.1)) st.post h.msgs;
         installs = λ r t m. (known_grows π w v grow_open r (h.installs r t m).0, comm_grows π w v grow_open r (h.installs r t m).0 (h.installs r t m).1);
         drops = λ r t m. (known_grows π w v grow_open r (h.drops r t m).0, abort_grows π w v grow_open r (h.drops r t m).0 (h.drops r t m).1);
         recs = λ s. (recs_grow π w v grow_open s _ (h.recs s).0, recs_grow π w v grow_open s _ (h.recs s).1);

@@ -1,23 +1,30 @@
 -- What holds of one station between steps, and the steps that messages, giving up and rejecting lead to.
-use Rattle.std.proofs.Common.{◌≡◌, ℕ, zero, suc, ◌<◌, Bool, true, false, not, ◌&&◌, eqb, ◌⊎◌, List, [], ◌∷◌, ◌++◌, sym, refl, ap, ◌∙◌, subst, inl, inr, arith}
+use Rattle.std.proofs.Common.{◌≡◌, ℕ, ◌<◌, Bool, true, false, eqb, ◌⊎◌, List, [], ◌∷◌, ◌++◌, sym, refl, ap, ◌∙◌, subst, inl, inr, arith, Some}
 use Rattle.std.specs.List.{AllByRecursion}
 use Rattle.std.proofs.ByRecursion.{All-weaker, All-append}
 use Rattle.std.proofs.lemmas.Bool.{or_cases, or_left, or_right, cond_both, cond-true, cond-false, cases_Bool, true≢false, eqb-true, eq-eqb, ne_eqb, and_parts}
-use Rattle.assurance.proofs.Ideal.{in_set, without_station, members, Kind, kI, kC, kA, kE, kp, kc, ka, code, Record, is, has, argument_of, Outcome, commit, abort, CoordinatorEntry, none, Open, Collecting, Announcing, SubordinateEntry, idle, Active, Prepared, Station, MessageKind, PREPARE, YES, NO, COMMIT, ABORT, ACK, INQUIRY, Plan, Run, Presumption, Logging, not_at_all, unforced, forced, at_station, written_station, forced_station, set_coordinator, set_subordinate, marked_installed, marked_dropped, Act, write, force, send, installed, dropped, act_done, stay, to_coordinator, to_subordinate, step, line, letter, send_each, outcome_mail, outcome_kind, await, logged, end_acts, abort_acts, force_if, ack_if, enforce_acts, reject_acts, prepare_acts, upon_prepare, decide_abort, upon_no, upon_outcome, upon_ack, upon_inquiry, upon_give_up, upon_reject}
+use Rattle.assurance.proofs.Ideal.{in_set, without_station, members, Kind, kI, kC, kA, kE, kp, kc, ka, Record, is, has, argument_of, Outcome, commit, abort, CoordinatorEntry, none, Open, Collecting, Announcing, SubordinateEntry, idle, Active, Prepared, Station, PREPARE, YES, NO, COMMIT, ABORT, ACK, INQUIRY, Plan, Run, Presumption, at_station, written_station, forced_station, set_coordinator, set_subordinate, marked_installed, marked_dropped, Act, write, force, send, installed, dropped, act_done, stay, to_coordinator, to_subordinate, step, line, letter, send_each, outcome_mail, outcome_kind, await, logged, end_acts, abort_acts, force_if, ack_if, enforce_acts, reject_acts, prepare_acts, upon_prepare, decide_abort, upon_no, upon_outcome, upon_ack, upon_inquiry, upon_give_up, upon_reject}
 use Rattle.assurance.proofs.Lasting.{has_append, Got, No, Past, Inactive, Idle, Shut, Doom, Veto, Settled, World, world, Grow, head, Named, Comm, Abort, Heard, Asked, AllSettled, LegalOf, Legal, RecOf, RecLegal, CoLegal, SubLegal, known_grows, comm_grows, abort_grows, legal_grows, rec_grows}
 use Rattle.assurance.proofs.Sets.{mem_del, mem_zero, del_back}
 use Rattle.assurance.proofs.Claims.{Laws}
 use Rattle.assurance.proofs.SafeActs.{SafeSt, upd_same, here_in, keeps_refl, keeps_write, keeps_force, keeps_co, keeps_sub, grow_in, safe_co, safe_co_old, safe_sub}
 use Rattle.assurance.proofs.SafeSteps.{OkAct, Oks, safe_step, safe_step_first, in_in}
+use Rattle.assurance.proofs.Rules.{all_log, all_end, all_sends}
+use Rattle.journal.specs.Records.{letter_of, kind_of}
 
 abbrev pub Has : Kind → ℕ → Station → Type 0
 Has k r x = (has k r x.stable ≡ true) ⊎ (has k r x.loose ≡ true)
 
 abbrev pub IsNone : CoordinatorEntry → Type 0
 IsNone none = Unit {0}
-IsNone (Open a) = ⊥
-IsNone (Collecting a y) = ⊥
-IsNone (Announcing o w) = ⊥
+IsNone e = ⊥
+
+-- who awaits somebody, or nobody, has decided
+pub past_await : (o : Outcome) (a : ℕ) → Past (await o a)
+past_await o a = cond_both (eqb a 0) none (Announcing o a) Past (λ _. tt) (λ _. tt)
+
+pub shut_await : (o : Outcome) (a : ℕ) → Shut (await o a)
+shut_await o a = cond_both (eqb a 0) none (Announcing o a) Shut (λ _. tt) (λ _. tt)
 
 -- what holds of a station's own journal and entries between steps
 pub record TidyS (π : Presumption) (P : ℕ → Plan) (s : ℕ) (x : Station) : Type 0 where
@@ -30,26 +37,16 @@ pub record TidyS (π : Presumption) (P : ℕ → Plan) (s : ℕ) (x : Station) :
   pub dropt : x.power ≡ true → (r : ℕ) → IsNone (x.coordinators r) → Got kI r x → has kC r x.stable ≡ false → (t : ℕ) → in_set (P r).names t ≡ true → π.acks abort t ≡ true → Has kE r x
   pub dark : x.power ≡ false → x.loose ≡ []
 
-abbrev decode : ℕ → Kind
-decode zero = kI
-decode (suc zero) = kC
-decode (suc (suc zero)) = kA
-decode (suc (suc (suc zero))) = kE
-decode (suc (suc (suc (suc zero)))) = kp
-decode (suc (suc (suc (suc (suc zero))))) = kc
-decode (suc (suc (suc (suc (suc (suc n)))))) = ka
+-- a kind is known by its letter
+named : (k : Kind) → kind_of (letter_of k) ≡ Some k
+named kI = refl
+named k = refl
 
-decode_code : (k : Kind) → decode (code k) ≡ k
-decode_code kI = refl
-decode_code kC = refl
-decode_code kA = refl
-decode_code kE = refl
-decode_code kp = refl
-decode_code kc = refl
-decode_code ka = refl
+same_letter : (a b : Kind) → letter_of a ≡ letter_of b → a ≡ b
+same_letter a b e = let p = named a in let q = named b in cc
 
 pub is_that : (k : Kind) (r : ℕ) (x : Record) → is k r x ≡ true → (x.kind ≡ k) × (x.revision ≡ r)
-is_that k r x h = let b = and_parts _ _ h in (sym (decode_code x.kind) ∙ (ap decode (eqb-true _ _ b.0) ∙ decode_code k), eqb-true _ _ b.1)
+is_that k r x h = let b = and_parts _ _ h in (same_letter x.kind k (eqb-true _ _ b.0), eqb-true _ _ b.1)
 
 module _ (π : Presumption) (w : World) (s : ℕ) where
   -- a record that is there is legal
@@ -84,7 +81,7 @@ module _ (π : Presumption) where
   pub ready_grows : (w v : World) → Grow w v → (s : ℕ) (a : Act) → Ready w s a → Ready v s a
   ready_grows w v g s (write x) h = (h.0, h.1, (known_grows π w v g x.revision h.2.0, rec_grows π w v g s x.kind x.revision x.argument h.2.0 h.2.1))
   ready_grows w v g s force h = tt
-  ready_grows w v g s (send m) h = (known_grows π w v g m.revision h.0, legal_grows π w v g m.mail m.revision m.from m.to h.0 h.1)
+  ready_grows w v g s (send m) h = (known_grows π w v g m.revision h.0, legal_grows π w v g m.kind m.revision m.sender m.receiver h.0 h.1)
   ready_grows w v g s (installed r) h = (known_grows π w v g r h.0, comm_grows π w v g r h.0 h.1)
   ready_grows w v g s (dropped r) h = (known_grows π w v g r h.0, abort_grows π w v g r h.0 h.1)
 
@@ -94,24 +91,16 @@ module _ (π : Presumption) where
   pub ready_act : (s : ℕ) (a : Act) (st : Run) → Ready (world st) s a → Grow (world st) (world (act_done s a st))
   ready_act s (write x) st h = grow_in π st s (written_station x) (keeps_write st.count x (st.station s) (λ r _ _. h.0 r) (λ r _ _. h.1 r))
   ready_act s force st h = grow_in π st s forced_station (keeps_force st.count (st.station s))
-  ready_act s (send m) st h = grow_refl (world st)
-  ready_act s (installed r) st h = grow_refl (world st)
-  ready_act s (dropped r) st h = grow_refl (world st)
+  ready_act s a st h = grow_refl (world st)
 
   ready_ok : (s : ℕ) (a : Act) (st : Run) → Ready (world st) s a → OkAct π s a st
   ready_ok s (write x) st h = (λ r _ _. h.0 r, λ r _ _. h.1 r, h.2)
   ready_ok s force st h = tt
-  ready_ok s (send m) st h = h
-  ready_ok s (installed r) st h = h
-  ready_ok s (dropped r) st h = h
+  ready_ok s a st h = h
 
   pub ready_oks : (s : ℕ) (l : List Act) (st : Run) → AllByRecursion (Ready (world st) s) l → Oks π s l st
   ready_oks s [] st h = tt
   ready_oks s (a ∷ l) st h = (ready_ok s a st h.0, ready_oks s l (act_done s a st) (All-weaker _ _ (λ b. ready_grows (world st) (world (act_done s a st)) (ready_act s a st h.0) s b) l h.1))
-
-  pub ready_sends : (w : World) (k : MessageKind) (r s : ℕ) → ((t : ℕ) → Legal π w (letter k r s t)) → (ts : List ℕ) → AllByRecursion (Ready w s) (send_each k r s ts)
-  ready_sends w k r s h [] = tt
-  ready_sends w k r s h (t ∷ ts) = (h t, ready_sends w k r s h ts)
 
 -- INQUIRY
 module _ (π : Presumption) (𝓛 : Laws π) where
@@ -165,9 +154,6 @@ module _ (π : Presumption) (𝓛 : Laws π) where
   asked_less o r t w v h z = (λ e. true≢false (sym (eq-eqb _ _ e) ∙ z), λ u m. h.1 u (del_back w t u m))
 
   pub safe_ack : (r s t : ℕ) (e : CoordinatorEntry) (f k : ℕ) (st : Run) → SafeSt π st → Settled r (st.station t) → (st.station s).coordinators r ≡ e → SafeSt π (upon_ack π r s t e f k st)
-  safe_ack r s t none f k st h l e = h
-  safe_ack r s t (Open a) f k st h l e = h
-  safe_ack r s t (Collecting a ys) f k st h l e = h
   safe_ack r s t (Announcing commit w) f k st h l e =
       let c = subst (λ v. CoLegal π (world st) s r v) e (h.cos s r) in
       cond_both (in_set w t) _ st (SafeSt π)
@@ -182,6 +168,7 @@ module _ (π : Presumption) (𝓛 : Laws π) where
       (λ z. safe_step π s (write (line kE r 0) ∷ []) (to_coordinator r none) f k st h ((λ _ _ _. refl, λ _ _ _. refl, (c.0, (c.1, inr (c.2, ended_all abort r t w (world st) c.3 l (eqb-true _ _ z))))), tt) (λ h'. safe_co_old π _ s h' r none (λ _. tt) tt tt))
       (λ z. safe_co_old π st s h r (Announcing abort (without_station w t)) (λ _. tt) tt (c.0, c.1, c.2, heard_less abort r t w (world st) c.3 l, asked_less abort r t w (world st) c.4 z)))
       (λ _. h)
+  safe_ack r s t x f k st h l e = h
 
   -- an outcome at a station with no entry: what it has there is stable
   quiet : (o : Outcome) (r s : ℕ) (st : Run) → SafeSt π st → TidyS π st.plan s (st.station s) → (st.station s).power ≡ true → Idle ((st.station s).subordinates r) → π.acks o s ≡ true → ((Comm (world st) r × (o ≡ commit)) ⊎ (Abort (world st) r × (o ≡ abort))) ⊎ Settled r (st.station s) → Settled r (st.station s)
@@ -206,27 +193,19 @@ module _ (π : Presumption) (𝓛 : Laws π) where
 
   -- decide abort for d: whoever acknowledges and is not in d is settled
   module _ (r s all d : ℕ) (f k : ℕ) (st : Run) (h : SafeSt π st) (known : r < st.count) (own : s ≡ (st.plan r).coordinator) (whole : all ≡ (st.plan r).names) (no : No kC r (st.station s)) (rest : (t : ℕ) → Named (world st) r t → π.acks abort t ≡ true → (in_set d t ≡ true) ⊎ Settled r (st.station t)) (part : (t : ℕ) → in_set d t ≡ true → in_set all t ≡ true) where
-    aw : CoordinatorEntry
+    abbrev aw : CoordinatorEntry
     aw = await abort (π.ackers abort d)
-
-    past_aw : Past aw
-    unfolding aw
-    past_aw = cond_both (eqb (π.ackers abort d) 0) none (Announcing abort (π.ackers abort d)) Past (λ _. tt) (λ _. tt)
-
-    shut_aw : Shut aw
-    unfolding aw
-    shut_aw = cond_both (eqb (π.ackers abort d) 0) none (Announcing abort (π.ackers abort d)) Shut (λ _. tt) (λ _. tt)
 
     st0 : Run
     st0 = at_station s (set_coordinator r aw) st
 
     g0 : Grow (world st) (world st0)
     unfolding st0
-    g0 = grow_in π st s (set_coordinator r aw) (keeps_co st.count r aw (st.station s) (λ _. past_aw) shut_aw)
+    g0 = grow_in π st s (set_coordinator r aw) (keeps_co st.count r aw (st.station s) (λ _. past_await abort (π.ackers abort d)) (shut_await abort (π.ackers abort d)))
 
     doomed : Doom r (head (world st0) r)
     unfolding st0
-    doomed = subst (λ (u : ℕ). Doom r (st0.station u)) own (rw (here_in s (set_coordinator r aw) st) (no, rw (upd_same (st.station s).coordinators r aw) past_aw))
+    doomed = subst (λ (u : ℕ). Doom r (st0.station u)) own (rw (here_in s (set_coordinator r aw) st) (no, rw (upd_same (st.station s).coordinators r aw) (past_await abort (π.ackers abort d))))
 
     rest0 : (t : ℕ) → Named (world st0) r t → π.acks abort t ≡ true → (in_set d t ≡ true) ⊎ Settled r (st0.station t)
     unfolding st0
@@ -236,41 +215,32 @@ module _ (π : Presumption) (𝓛 : Laws π) where
     heard0 t m a = elim (rest0 t m a) [ inl i ↦ inl (𝓛.acker abort d t i a) | inr i ↦ inr i ]
 
     safe0 : SafeSt π st0
-    unfolding st0 aw
-    safe0 = safe_co π st s h r aw (λ _. past_aw) shut_aw (cond_both (eqb (π.ackers abort d) 0) none (Announcing abort (π.ackers abort d)) (CoLegal π (world st0) s r) (λ _. tt) (λ z. (known, own, doomed, heard0, (λ e. true≢false (sym (eq-eqb _ _ e) ∙ z), λ u m. (let b = 𝓛.backer abort d u m in (rw (← whole) (part u b.0), b.1))))))
-
-    a_ready : (l : Logging) → AllByRecursion (Ready π (world st0) s) (logged l (line kA r all))
     unfolding st0
-    a_ready not_at_all = tt
-    a_ready unforced = ((λ _. refl, λ _. refl, (known, (own, whole))), tt)
-    a_ready forced = ((λ _. refl, λ _. refl, (known, (own, whole))), (tt, tt))
+    safe0 = safe_co π st s h r aw (λ _. past_await abort (π.ackers abort d)) (shut_await abort (π.ackers abort d)) (cond_both (eqb (π.ackers abort d) 0) none (Announcing abort (π.ackers abort d)) (CoLegal π (world st0) s r) (λ _. tt) (λ z. (known, own, doomed, heard0, (λ e. true≢false (sym (eq-eqb _ _ e) ∙ z), λ u m. (let b = 𝓛.backer abort d u m in (rw (← whole) (part u b.0), b.1))))))
+
+    a_ready : AllByRecursion (Ready π (world st0) s) (logged (π.logs all) (line kA r all))
+    unfolding st0
+    a_ready = all_log π (Ready π (world st0) s) (π.logs all) (line kA r all) (λ _. refl, λ _. refl, (known, (own, whole))) tt
 
     e_ready : AllByRecursion (Ready π (world st0) s) (end_acts π r all d)
     unfolding st0
-    e_ready =
-        cond_both (not (eqb (π.ackers abort all) 0) && eqb (π.ackers abort d) 0) (write (line kE r 0) ∷ []) [] (AllByRecursion (Ready π (world st0) s))
-        (λ b. let z : π.ackers abort d ≡ 0 = eqb-true _ _ (and_parts _ _ b).1 in
-        ((λ _. refl, λ _. refl, (known, (own, inr (doomed, λ t m a. elim (heard0 t m a) [ inl i ↦ absurd (true≢false (sym (rw z at i) ∙ mem_zero t)) | inr i ↦ i ])))), tt))
-        (λ _. tt)
+    e_ready = all_end π (Ready π (world st0) s) r all d (λ z. (λ _. refl, λ _. refl, (known, (own, inr (doomed, λ t m a. elim (heard0 t m a) [ inl i ↦ absurd (true≢false (sym (rw z at i) ∙ mem_zero t)) | inr i ↦ i ])))))
 
     pub safe_decide : SafeSt π (decide_abort π r s all d f k st)
-    unfolding st0 aw
+    unfolding st0
     safe_decide =
         safe_step_first π s (abort_acts π r s all d) (to_coordinator r aw) f k st safe0
-        (ready_oks π s (abort_acts π r s all d) st0 (All-append _ (logged (π.logs all) (line kA r all)) _ (a_ready (π.logs all)) (All-append _ (send_each ABORT r s (members π.size d)) _ (ready_sends π (world st0) ABORT r s (λ t. (known, inl (inl doomed))) (members π.size d)) e_ready)))
+        (ready_oks π s (abort_acts π r s all d) st0 (All-append _ (logged (π.logs all) (line kA r all)) _ a_ready (All-append _ (send_each ABORT r s (members π.size d)) _ (all_sends π (Ready π (world st0) s) ABORT r s d (λ t _. (known, inl (inl doomed)))) e_ready)))
 
 pub is_own : (k : Kind) (r a : ℕ) → is k r (line k r a) ≡ true
 is_own kI r a = eq-eqb r r refl
-is_own kC r a = eq-eqb r r refl
-is_own kA r a = eq-eqb r r refl
-is_own kE r a = eq-eqb r r refl
-is_own kp r a = eq-eqb r r refl
-is_own kc r a = eq-eqb r r refl
-is_own ka r a = eq-eqb r r refl
+is_own k r a = eq-eqb r r refl
+
+pub written_got : (k : Kind) (r a : ℕ) (l : List Record) → has k r (l ++ (line k r a ∷ [])) ≡ true
+written_got k r a l = has_append k r l (line k r a ∷ []) ∙ or_right _ _ (or_left _ _ (is_own k r a))
 
 pub forced_got : (k : Kind) (r a : ℕ) (y : Station) → Got k r (forced_station (written_station (line k r a) y))
-forced_got k r a y =
-    has_append k r y.stable (y.loose ++ (line k r a ∷ [])) ∙ or_right _ _ (has_append k r y.loose (line k r a ∷ []) ∙ or_right _ _ (or_left _ _ (is_own k r a)))
+forced_got k r a y = has_append k r y.stable (y.loose ++ (line k r a ∷ [])) ∙ or_right _ _ (written_got k r a y.loose)
 
 pub now_forced : (s : ℕ) (x : Record) (st : Run) → (at_station s forced_station (at_station s (written_station x) st)).station s ≡ forced_station (written_station x (st.station s))
 now_forced s x st = ap (λ (u : Run). u.station s) (in_in s forced_station (written_station x) st) ∙ here_in s (λ y. forced_station (written_station x y)) st
@@ -358,19 +328,15 @@ module _ (π : Presumption) (𝓛 : Laws π) where
 
   -- give up, and NO
   pub safe_give_up : (r s : ℕ) (e : CoordinatorEntry) (f k : ℕ) (st : Run) → SafeSt π st → TidyS π st.plan s (st.station s) → (st.station s).coordinators r ≡ e → SafeSt π (upon_give_up π r s e f k st)
-  safe_give_up r s none f k st h y e = h
-  safe_give_up r s (Announcing o w) f k st h y e = h
   safe_give_up r s (Open all) f k st h y e =
       let c = subst (λ v. CoLegal π (world st) s r v) e (h.cos s r) in
       safe_decide π 𝓛 r s all all f k st h c.0 c.1 c.2 (y.live r (λ i. rw e at i)) (λ t m a. inl (rw c.2 m)) (λ t m. m)
   safe_give_up r s (Collecting all ys) f k st h y e =
       let c = subst (λ v. CoLegal π (world st) s r v) e (h.cos s r) in
       safe_decide π 𝓛 r s all all f k st h c.0 c.1 c.2 (y.live r (λ i. rw e at i)) (λ t m a. inl (rw c.2 m)) (λ t m. m)
+  safe_give_up r s x f k st h y e = h
 
   pub safe_no : (r s t : ℕ) (e : CoordinatorEntry) (f k : ℕ) (st : Run) → SafeSt π st → TidyS π st.plan s (st.station s) → Legal π (world st) (letter NO r t s) → (st.station s).coordinators r ≡ e → SafeSt π (upon_no π r s t e f k st)
-  safe_no r s t none f k st h y l e = h
-  safe_no r s t (Announcing o w) f k st h y l e = h
-  safe_no r s t (Open all) f k st h y l e = h
   safe_no r s t (Collecting all ys) f k st h y l e =
       let c = subst (λ v. CoLegal π (world st) s r v) e (h.cos s r) in
       let n = y.live r (λ i. rw e at i) in
@@ -381,11 +347,10 @@ module _ (π : Presumption) (𝓛 : Laws π) where
         | inr i ↦ inr (elim l.1 [ inl q ↦ rw i at (q (rw i a)) | inr q ↦ absurd (true≢false (sym (rw c.1 q) ∙ n.0)) ])
       ]) (del_back all t))
       (λ _. h)
+  safe_no r s t x f k st h y l e = h
 
   -- reject
   pub safe_reject : (r s : ℕ) (e : SubordinateEntry) (f k : ℕ) (st : Run) → SafeSt π st → TidyS π st.plan s (st.station s) → (st.station s).subordinates r ≡ e → SafeSt π (upon_reject π r s e f k st)
-  safe_reject r s idle f k st h y e = h
-  safe_reject r s (Prepared c) f k st h y e = h
   safe_reject r s (Active c) f k st h y e =
       let q = subst (λ v. SubLegal π (world st) s r v) e (h.subs s r) in
       let v : Veto r ((at_station s (set_subordinate r idle) st).station s) = rw (here_in s (set_subordinate r idle) st) (y.fresh r (λ i. rw e at i), rw (upd_same (st.station s).subordinates r idle) tt) in
@@ -395,3 +360,4 @@ module _ (π : Presumption) (𝓛 : Laws π) where
       tail : (b : Bool) (u : Run) → Oks π s (force_if π b []) u
       tail true u = (tt, tt)
       tail false u = tt
+  safe_reject r s x f k st h y e = h

@@ -5,6 +5,7 @@ use Rattle.std.proofs.lemmas.Bool.{cond_both}
 use Rattle.assurance.proofs.Ideal.{updated, kC, kp, is, Station, Run, Presumption, at_station, written_station, forced_station, cut_station, set_coordinator, set_subordinate, Act, write, force, send, installed, dropped, act_done, acts_done, Turn, stay, to_coordinator, to_subordinate, turn, step}
 use Rattle.assurance.proofs.Lasting.{Past, Inactive, world, Comm, Abort, Legal, RecLegal}
 use Rattle.assurance.proofs.SafeActs.{SafeSt, upd_same, safe_write, safe_force, safe_cut, safe_send, safe_in_mark, safe_dr_mark}
+use Rattle.assurance.proofs.Local.{Along, along_take, acts_keep}
 
 -- two changes of one station are one
 upd_twice : {X : Type 0} (f : ℕ → X) (s : ℕ) (v : X) (g : X → X) → updated (updated f s v) s (g (updated f s v s)) ≡ updated f s (g v)
@@ -47,13 +48,7 @@ module _ (π : Presumption) where
   OkAct s (dropped r) st = (r < st.count) × Abort (world st) r
 
   abbrev pub Oks : ℕ → List Act → Run → Type 0
-  Oks s [] st = Unit {0}
-  Oks s (a ∷ more) st = OkAct s a st × Oks s more (act_done s a st)
-
-  pub oks_take : (s n : ℕ) (l : List Act) (st : Run) → Oks s l st → Oks s (take n l) st
-  oks_take s zero l st h = tt
-  oks_take s (suc n) [] st h = tt
-  oks_take s (suc n) (a ∷ l) st h = (h.0, oks_take s n l (act_done s a st) h.1)
+  Oks s l st = Along (OkAct s) s l st
 
   pub safe_act : (s : ℕ) (a : Act) (st : Run) → SafeSt π st → OkAct s a st → SafeSt π (act_done s a st)
   safe_act s (write x) st h k = safe_write π st s h x k.0 k.1 k.2
@@ -63,19 +58,18 @@ module _ (π : Presumption) where
   safe_act s (dropped r) st h k = safe_dr_mark π st r s h k
 
   pub safe_acts : (s : ℕ) (l : List Act) (st : Run) → SafeSt π st → Oks s l st → SafeSt π (acts_done s l st)
-  safe_acts s [] st h k = h
-  safe_acts s (a ∷ l) st h k = safe_acts s l (act_done s a st) (safe_act s a st h k.0) k.1
+  safe_acts s l st h k = acts_keep (OkAct s) s (SafeSt π) (λ a v c q. safe_act s a v q c) l st k h
 
   pub safe_step : (s : ℕ) (l : List Act) (g : Turn) (f k : ℕ) (st : Run) → SafeSt π st → Oks s l st → (SafeSt π (acts_done s l st) → SafeSt π (turn s g (acts_done s l st))) → SafeSt π (step s l g f k st)
   safe_step s l g f k st h o last =
       cond_both (ltb f (length l)) (at_station s (cut_station k) (acts_done s (take f l) st)) (turn s g (acts_done s l st)) (SafeSt π)
-      (λ _. safe_cut π (acts_done s (take f l) st) s (safe_acts s (take f l) st h (oks_take s f l st o)) k)
+      (λ _. safe_cut π (acts_done s (take f l) st) s (safe_acts s (take f l) st h (along_take (OkAct s) s f l st o)) k)
       (λ _. last (safe_acts s l st h o))
 
   pub safe_step_first : (s : ℕ) (l : List Act) (t : Turn) (f k : ℕ) (st : Run) → SafeSt π (turn s t st) → Oks s l (turn s t st) → SafeSt π (step s l t f k st)
   safe_step_first s l t f k st h o =
       cond_both (ltb f (length l)) (at_station s (cut_station k) (acts_done s (take f l) st)) (turn s t (acts_done s l st)) (SafeSt π)
-      (λ _. subst (SafeSt π) (cut_forgets s k t (take f l) st) (safe_cut π (acts_done s (take f l) (turn s t st)) s (safe_acts s (take f l) (turn s t st) h (oks_take s f l (turn s t st) o)) k))
+      (λ _. subst (SafeSt π) (cut_forgets s k t (take f l) st) (safe_cut π (acts_done s (take f l) (turn s t st)) s (safe_acts s (take f l) (turn s t st) h (along_take (OkAct s) s f l (turn s t st) o)) k))
       (λ _. subst (SafeSt π) (sym (turn_first s t l st)) (safe_acts s l (turn s t st) h o))
 
   pub acts_join : (s : ℕ) (l m : List Act) (st : Run) → acts_done s (l ++ m) st ≡ acts_done s m (acts_done s l st)
@@ -90,6 +84,6 @@ module _ (π : Presumption) where
       (λ _. subst (λ (u : Run). SafeSt π (turn s t u)) (sym (acts_join s l m st)) (subst (SafeSt π) (sym (turn_first s t m (acts_done s l st))) (safe_acts s m (turn s t (acts_done s l st)) h2 o2)))
     where
       part : (f : ℕ) (l : List Act) (st : Run) → SafeSt π st → Oks s l st → SafeSt π (turn s t (acts_done s l st)) → Oks s m (turn s t (acts_done s l st)) → SafeSt π (at_station s (cut_station k) (acts_done s (take f (l ++ m)) st))
-      part f [] st h o h2 o2 = subst (SafeSt π) (cut_forgets s k t (take f m) st) (safe_cut π (acts_done s (take f m) (turn s t st)) s (safe_acts s (take f m) (turn s t st) h2 (oks_take s f m (turn s t st) o2)) k)
+      part f [] st h o h2 o2 = subst (SafeSt π) (cut_forgets s k t (take f m) st) (safe_cut π (acts_done s (take f m) (turn s t st)) s (safe_acts s (take f m) (turn s t st) h2 (along_take (OkAct s) s f m (turn s t st) o2)) k)
       part zero (a ∷ l) st h o h2 o2 = safe_cut π st s h k
       part (suc f) (a ∷ l) st h o h2 o2 = part f l (act_done s a st) (safe_act s a st h o.0) o.1 h2 o2

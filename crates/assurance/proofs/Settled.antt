@@ -2,12 +2,12 @@
 use Rattle.std.proofs.Common.{◌≡◌, ℕ, ◌<◌, ◌≤◌, true, not, ◌&&◌, eqb, ◌⊎◌, List, [], ◌∷◌, ◌++◌, length, sym, refl, ap, ◌∙◌, subst, inl, inr, arith}
 use Rattle.std.specs.List.{AllByRecursion, range_with_len}
 use Rattle.std.proofs.lemmas.Bool.{cond_both, cond-true, cases_eq, true≢false, cases_lt}
-use Rattle.assurance.proofs.Ideal.{in_set, members, kC, kA, kE, kp, ka, Record, Outcome, commit, abort, CoordinatorEntry, none, Open, Collecting, Announcing, SubordinateEntry, idle, Active, Prepared, MessageKind, ABORT, ACK, INQUIRY, Message, Plan, Run, Presumption, Logging, not_at_all, unforced, forced, with_post, Act, write, acts_done, Turn, stay, to_coordinator, turn, line, letter, send_each, outcome_mail, await, logged, end_acts, abort_acts, upon_outcome, upon_ack, upon_inquiry, upon_inquire, handed, hand_first, emptied, nudge, urged, asked, inquire_all, revise, revise_all, settled}
+use Rattle.assurance.proofs.Ideal.{in_set, members, kC, kA, kE, kp, ka, Record, Outcome, commit, abort, CoordinatorEntry, none, Open, Collecting, Announcing, SubordinateEntry, idle, Active, Prepared, MessageKind, ABORT, ACK, INQUIRY, Message, Plan, Run, Presumption, Logging, not_at_all, with_post, Act, write, acts_done, Turn, stay, to_coordinator, turn, line, letter, send_each, outcome_mail, await, logged, end_acts, abort_acts, upon_outcome, upon_ack, upon_inquiry, upon_inquire, handed, hand_first, emptied, nudge, urged, asked, inquire_all, revise, revise_all, settled}
 use Rattle.assurance.proofs.Lasting.{Got, Shut, world, head, Named, Comm, CoLegal, SubLegal}
 use Rattle.assurance.proofs.Claims.{Laws}
 use Rattle.assurance.proofs.SafeActs.{SafeSt}
 use Rattle.assurance.proofs.SafeRules.{IsNone, has_legal, there_legal, excl}
-use Rattle.assurance.proofs.Invariant.{Inv, inv_first, inv_emptied, inv_asked, inv_urged}
+use Rattle.assurance.proofs.Invariant.{Inv, inv_first, inv_asked, inv_urged}
 use Rattle.assurance.proofs.Rules.{drop, press, For, did_handed, did_nudge, did_inquire, whole, few_members}
 use Rattle.assurance.proofs.Loads.{empty, keeps_emptied}
 use Rattle.assurance.proofs.Whole.{On, Aside, aside_trans, Sure, Rested, co_moved, co_now, on_did, aside_did, on_first, first_on}
@@ -20,8 +20,7 @@ module _ (π : Presumption) (𝓛 : Laws π) where
 
   letters_log : (l : Logging) (x : Record) → letters (logged l x) ≡ []
   letters_log not_at_all x = refl
-  letters_log unforced x = refl
-  letters_log forced x = refl
+  letters_log y x = refl
 
   letters_end : (r all d : ℕ) → letters (end_acts π r all d) ≡ []
   letters_end r all d = cond_both (not (eqb (π.ackers abort all) 0) && eqb (π.ackers abort d) 0) (write (line kE r 0) ∷ []) [] (λ (l : List Act). letters l ≡ []) (λ _. refl) (λ _. refl)
@@ -50,8 +49,6 @@ module _ (π : Presumption) (𝓛 : Laws π) where
     asked_of abort w e u m = ((subst (λ x. CoLegal π (world st) c r x) e (h.cos c r)).4.1 u m).0
 
     tri_nudge : (e : CoordinatorEntry) → (st.station c).coordinators r ≡ e → Tri π 𝓛 r c (nudge π r c e st)
-    tri_nudge none e = tri_of r c st [] none bare e tt (omega arith) tt
-    tri_nudge (Open a) e = tri_of r c st [] (Open a) bare e tt (omega arith) tt
     tri_nudge (Announcing o w) e =
         subst (Tri π 𝓛 r c) (sym (whole π 𝓛 (press o w) r c c st))
         (tri_of r c (turn c stay (acts_done c (send_each (outcome_mail o) r c (members π.size w)) st)) (letters (send_each (outcome_mail o) r c (members π.size w))) (Announcing o w) (sent c (send_each (outcome_mail o) r c (members π.size w)) stay (few_sends (outcome_mail o) r c w)) (co_moved c (send_each (outcome_mail o) r c (members π.size w)) stay st tt c r ∙ e) (mild_sends o r c (members π.size w)) (few_sends (outcome_mail o) r c w) (pend_sent o w w (λ u m. m) (asked_of o w e)))
@@ -61,6 +58,7 @@ module _ (π : Presumption) (𝓛 : Laws π) where
         subst (Tri π 𝓛 r c) (sym (whole π 𝓛 (drop all all) r c c st))
         (tri_of r c (turn c (to_coordinator r (await abort (π.ackers abort all))) (acts_done c (abort_acts π r c all all) st)) (letters (send_each ABORT r c (members π.size all))) (await abort (π.ackers abort all)) (sent c (abort_acts π r c all all) (to_coordinator r (await abort (π.ackers abort all))) few ∙ letters_abort r c all all) (co_now c r (await abort (π.ackers abort all)) (abort_acts π r c all all) st) (mild_sends abort r c (members π.size all)) (few_sends ABORT r c all)
         (cond_both (eqb (π.ackers abort all) 0) none (Announcing abort (π.ackers abort all)) (λ (x : CoordinatorEntry). CoPend r c x (letters (send_each ABORT r c (members π.size all)))) (λ _. tt) (λ _. pend_sent abort (π.ackers abort all) all (λ u m. (𝓛.backer abort all u m).0) (λ u m. rw (← l.2) (𝓛.backer abort all u m).0))))
+    tri_nudge v e = tri_of r c st [] v bare e tt (omega arith) tt
 
   mid_urged : (r : ℕ) (st : Run) → Inv π 𝓛 st → On st → ((t : ℕ) → in_set (st.plan r).names t ≡ true → t < π.size) → st.post ≡ [] → Mid π 𝓛 r (st.plan r).coordinator st (urged π r st)
   mid_urged r st h on sets bare =
@@ -104,15 +102,12 @@ module _ (π : Presumption) (𝓛 : Laws π) where
 
     on_inquiry : (st : Run) (e : CoordinatorEntry) → (st.station c).coordinators r ≡ e → IsNone e → (st.station c).coordinators r ≡ (st1.station c).coordinators r → ((t : ℕ) → Sure ((st1.station t).subordinates r) → Sure ((st.station t).subordinates r)) → Parts (upon_inquiry π r c s e 255 0 (with_post [] st))
     on_inquiry st none e n a b = (a, b, inr (inl (π.presumed s, refl)))
-    on_inquiry st (Open x) e n a b = absurd n
-    on_inquiry st (Collecting x y) e n a b = absurd n
-    on_inquiry st (Announcing o w) e n a b = absurd n
+    on_inquiry st v e n a b = absurd n
 
     on_ack : (st : Run) (e : CoordinatorEntry) → (st.station c).coordinators r ≡ e → Rested e → (st.station c).coordinators r ≡ (st1.station c).coordinators r → ((t : ℕ) → Sure ((st1.station t).subordinates r) → Sure ((st.station t).subordinates r)) → Sure ((st.station s).subordinates r) → Parts (upon_ack π r c s e 255 0 (with_post [] st))
-    on_ack st none e n a b q = (a, b, inr (inr (inr (refl, q))))
-    on_ack st (Open x) e n a b q = (a, b, inr (inr (inr (refl, q))))
     on_ack st (Collecting x y) e n a b q = absurd n
     on_ack st (Announcing o w) e n a b q = absurd n
+    on_ack st v e n a b q = (a, b, inr (inr (inr (refl, q))))
 
     on_out : (o : Outcome) (st : Run) → SafeSt π st → (st.plan r).coordinator ≡ c → (st.station c).coordinators r ≡ (st1.station c).coordinators r → ((t : ℕ) → Sure ((st1.station t).subordinates r) → Sure ((st.station t).subordinates r)) → Parts (upon_outcome π o r s c ((st.station s).subordinates r) 255 0 (with_post [] st))
     on_out o st h own a b =
@@ -174,8 +169,7 @@ module _ (π : Presumption) (𝓛 : Laws π) where
   closed : (e : CoordinatorEntry) → Rested e → Shut e → IsNone e
   closed none a b = tt
   closed (Open x) a b = absurd b
-  closed (Collecting x y) a b = absurd a
-  closed (Announcing o w) a b = absurd a
+  closed e a b = absurd a
 
   ask_stage : (st0 : Run) (r c s : ℕ) (st : Run) → Base st0 r c st → Stage st0 st r c s (asked π r s st)
   ask_stage st0 r c s st h =
@@ -191,13 +185,12 @@ module _ (π : Presumption) (𝓛 : Laws π) where
       }
     where
       go : (x : SubordinateEntry) → (st.station s).subordinates r ≡ x → Parts st0 st r c s (upon_inquire π r s x 255 0 st)
-      go idle e = (refl, (λ t q. q), inr (inr (inr (h.bare, subst Sure (sym e) tt))))
-      go (Active d) e = (refl, (λ t q. q), inr (inr (inr (h.bare, subst Sure (sym e) tt))))
       go (Prepared d) e =
           let l = subst (λ x. SubLegal π (world st) s r x) e (h.inv.safe.subs s r) in
           let p = has_legal π (world st) s kp r (st.station s).stable (h.inv.safe.recs s).0 l.2 in
           let n : IsNone ((st.station c).coordinators r) = closed ((st.station c).coordinators r) h.rest (subst (λ (x : ℕ). Shut ((st.station x).coordinators r)) h.own p.1.3) in
           (refl, (λ t q. q), inl (room_post (letter INQUIRY r s d) st (rw h.bare (omega arith)) ∙ (ap (λ (l : List Message). l ++ (letter INQUIRY r s d ∷ [])) h.bare ∙ ap (λ (x : ℕ). letter INQUIRY r s x ∷ []) (l.1 ∙ h.own)), n))
+      go v e = (refl, (λ t q. q), inr (inr (inr (h.bare, subst Sure (sym e) tt))))
 
   ask_one : (st0 : Run) (r c s : ℕ) (st : Run) (k : ℕ) → Base st0 r c st → (let v = (emptied π (asked π r s st) k).left in Base st0 r c v × ((t : ℕ) → Sure ((st.station t).subordinates r) → Sure ((v.station t).subordinates r)) × Sure ((v.station s).subordinates r))
   ask_one st0 r c s st k h =
@@ -227,9 +220,8 @@ module _ (π : Presumption) (𝓛 : Laws π) where
   sure_far st h r t n = go ((st.station t).subordinates r) refl
     where
       go : (e : SubordinateEntry) → (st.station t).subordinates r ≡ e → Sure e
-      go idle e = tt
-      go (Active d) e = tt
       go (Prepared d) e = n (has_legal π (world st) t kp r (st.station t).stable (h.recs t).0 (subst (λ x. SubLegal π (world st) t r x) e (h.subs t r)).2).1.1
+      go v e = tt
 
   revised : (r : ℕ) (st : Run) (k : ℕ) → After st → (let v = (revise π r st k).left in After v × Done r v × Aside r st v)
   unfolding revise
@@ -269,7 +261,7 @@ module _ (π : Presumption) (𝓛 : Laws π) where
 
   same_first : (st0 : Run) (m : Message) (ms : List Message) (st : Run) → m ∷ ms ≡ st.post → (st.plan ≡ st0.plan) × (st.count ≡ st0.count) × On st → ((hand_first π m (with_post ms st)).plan ≡ st0.plan) × ((hand_first π m (with_post ms st)).count ≡ st0.count) × On (hand_first π m (with_post ms st))
   same_first st0 m ms st e h =
-      let a = aside_did π 𝓛 (with_post ms st) m.revision m.to m.from (λ u. For π u m.mail) _ (did_handed π m.mail m.revision m.to m.from 255 0 (with_post ms st)) in
+      let a = aside_did π 𝓛 (with_post ms st) m.revision m.receiver m.sender (λ u. For π u m.kind) _ (did_handed π m.kind m.revision m.receiver m.sender 255 0 (with_post ms st)) in
       (rw (first_on π 𝓛 m ms st h.2) (a.plan ∙ h.0), rw (first_on π 𝓛 m ms st h.2) (a.count ∙ h.1), on_first π 𝓛 m ms st h.2)
 
   -- the end of a settle
@@ -278,7 +270,7 @@ module _ (π : Presumption) (𝓛 : Laws π) where
   settles st h on sets =
       let d = emptied π st 0 in
       let s = keeps_emptied π 𝓛 (λ (v : Run). (v.plan ≡ st.plan) × (v.count ≡ st.count) × On v) (same_first st) st 0 (refl, refl, on) in
-      let b = revises (range_with_len 0 st.count) d.left d.made (record { inv = inv_emptied π 𝓛 st 0 h; on = s.2; bare = (empty π 𝓛 st 0).0; sets = λ r t i. sets r t (subst (λ (g : ℕ → Plan). in_set (g r).names t ≡ true) s.0 i) }) in
+      let b = revises (range_with_len 0 st.count) d.left d.made (record { inv = keeps_emptied π 𝓛 (Inv π 𝓛) (inv_first π 𝓛) st 0 h; on = s.2; bare = (empty π 𝓛 st 0).0; sets = λ r t i. sets r t (subst (λ (g : ℕ → Plan). in_set (g r).names t ≡ true) s.0 i) }) in
       (b.0, (λ r l. b.1 r (inr (elem_counting 0 st.count r (omega arith) (omega arith)))), b.2 ∙ s.1)
 
   -- no entry of any station awaits anything
@@ -296,9 +288,8 @@ module _ (π : Presumption) (𝓛 : Laws π) where
       go (Announcing abort w) e = let l = subst (λ x. CoLegal π (world v) s r x) e (h.safe.cos s r) in subst Rested e (at l.0 l.1)
 
       go2 : (e : SubordinateEntry) → (v.station s).subordinates r ≡ e → Sure e
-      go2 idle e = tt
-      go2 (Active d) e = tt
       go2 (Prepared d) e = let l = subst (λ x. SubLegal π (world v) s r x) e (h.safe.subs s r) in subst Sure e ((done r l.0).1 s)
+      go2 a e = tt
 
   -- a committed revision is installed at every station of its set
   pub installed_all : (v : Run) → Inv π 𝓛 v → On v → Marked v → ((r s : ℕ) → Sure ((v.station s).subordinates r)) → (r t : ℕ) → Comm (world v) r → Named (world v) r t → in_set (v.installed_at r) t ≡ true

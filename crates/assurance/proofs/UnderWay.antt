@@ -4,7 +4,7 @@ use Rattle.std.specs.List.{AllByRecursion, range_with_len}
 use Rattle.std.proofs.ByRecursion.{All-push}
 use Rattle.std.proofs.lemmas.Bool.Decides.{nat_tests}
 use Rattle.std.proofs.lemmas.Bool.{cond_both, cond-true, cases_eq, true≢false}
-use Rattle.assurance.proofs.Ideal.{in_set, without_station, members, kC, kE, Outcome, commit, abort, CoordinatorEntry, none, Open, Collecting, Announcing, SubordinateEntry, idle, Active, Prepared, MessageKind, PREPARE, YES, NO, COMMIT, ABORT, ACK, INQUIRY, Message, Plan, Run, Presumption, at_station, set_coordinator, with_message, marked_installed, marked_dropped, with_post, Act, write, force, send, installed, dropped, act_done, acts_done, Turn, stay, to_coordinator, to_subordinate, turn, step, line, letter, send_each, outcome_mail, outcome_kind, mark, force_if, ack_if, enforce_acts, upon_outcome, upon_ack, handed, hand_first, emptied}
+use Rattle.assurance.proofs.Ideal.{in_set, without_station, members, kC, kE, Outcome, commit, abort, CoordinatorEntry, none, Open, Collecting, Announcing, SubordinateEntry, idle, Active, Prepared, MessageKind, COMMIT, ABORT, ACK, Message, Plan, Run, Presumption, at_station, set_coordinator, with_message, marked_installed, marked_dropped, with_post, Act, write, force, send, installed, dropped, act_done, acts_done, Turn, stay, to_coordinator, to_subordinate, turn, step, line, letter, send_each, outcome_mail, outcome_kind, mark, force_if, ack_if, enforce_acts, upon_outcome, upon_ack, handed, hand_first, emptied}
 use Rattle.assurance.proofs.Lasting.{World, world, head, CoLegal, SubLegal}
 use Rattle.assurance.proofs.Sets.{del_self, del_back, mem_none}
 use Rattle.assurance.proofs.Claims.{Laws}
@@ -50,11 +50,8 @@ elem_members n m u h l = elem_kept (in_set m) u (range_with_len 0 n) (elem_count
 -- what acts post
 abbrev pub letters : List Act → List Message
 letters [] = []
-letters (write x ∷ l) = letters l
-letters (force ∷ l) = letters l
 letters (send m ∷ l) = m ∷ letters l
-letters (installed r ∷ l) = letters l
-letters (dropped r ∷ l) = letters l
+letters (a ∷ l) = letters l
 
 pub append-nil : (l : List Message) → l ≡ l ++ []
 append-nil [] = refl
@@ -82,16 +79,12 @@ post_acts s (dropped r ∷ l) st h = post_acts s l (marked_dropped r s st) h
 
 pub post_turn : (s : ℕ) (tn : Turn) (st : Run) → (turn s tn st).post ≡ st.post
 post_turn s stay st = refl
-post_turn s (to_coordinator r e) st = refl
-post_turn s (to_subordinate r e) st = refl
+post_turn s tn st = refl
 
 pub letters_append : (l m : List Act) → letters (l ++ m) ≡ letters l ++ letters m
 letters_append [] m = refl
-letters_append (write x ∷ l) m = letters_append l m
-letters_append (force ∷ l) m = letters_append l m
 letters_append (send x ∷ l) m = ap (λ (j : List Message). x ∷ j) (letters_append l m)
-letters_append (installed r ∷ l) m = letters_append l m
-letters_append (dropped r ∷ l) m = letters_append l m
+letters_append (a ∷ l) m = letters_append l m
 
 pub letters_sends : (k : MessageKind) (r s : ℕ) (ts : List ℕ) → length (letters (send_each k r s ts)) ≡ length ts
 letters_sends k r s [] = refl
@@ -107,23 +100,19 @@ abbrev pub Pend : ℕ → Outcome → ℕ → ℕ → List Message → Type 0
 Pend w o r c l = (u : ℕ) → in_set w u ≡ true → In (letter (outcome_mail o) r c u) l ⊎ In (letter ACK r u c) l
 
 abbrev pub CoPend : ℕ → ℕ → CoordinatorEntry → List Message → Type 0
-CoPend r c none l = Unit {0}
-CoPend r c (Open a) l = Unit {0}
 CoPend r c (Collecting a y) l = ⊥
 CoPend r c (Announcing o w) l = Pend w o r c l
+CoPend r c e l = Unit {0}
 
 -- only outcomes from the coordinator and ACKs to it
 abbrev pub MildOf : ℕ → ℕ → MessageKind → ℕ → ℕ → ℕ → Type 0
-MildOf r c PREPARE q s t = ⊥
-MildOf r c YES q s t = ⊥
-MildOf r c NO q s t = ⊥
 MildOf r c COMMIT q s t = (q ≡ r) × (s ≡ c)
 MildOf r c ABORT q s t = (q ≡ r) × (s ≡ c)
 MildOf r c ACK q s t = (q ≡ r) × (t ≡ c)
-MildOf r c INQUIRY q s t = ⊥
+MildOf r c m q s t = ⊥
 
 abbrev pub Mild : ℕ → ℕ → Message → Type 0
-Mild r c m = MildOf r c m.mail m.revision m.from m.to
+Mild r c m = MildOf r c m.kind m.revision m.sender m.receiver
 
 mild_outcome : (o : Outcome) (r c u : ℕ) → MildOf r c (outcome_mail o) r c u
 mild_outcome commit r c u = (refl, refl)
@@ -200,8 +189,7 @@ module _ (π : Presumption) (𝓛 : Laws π) where
 
   pub own_sub : (st : Run) → SafeSt π st → (s r : ℕ) (e : SubordinateEntry) → (st.station s).subordinates r ≡ e → OwnC e (st.plan r).coordinator
   own_sub st h s r idle e = tt
-  own_sub st h s r (Active d) e = (subst (λ v. SubLegal π (world st) s r v) e (h.subs s r)).1
-  own_sub st h s r (Prepared d) e = (subst (λ v. SubLegal π (world st) s r v) e (h.subs s r)).1
+  own_sub st h s r x e = (subst (λ v. SubLegal π (world st) s r v) e (h.subs s r)).1
 
   module _ (r c : ℕ) where
     abbrev pub Tri : Run → Type 0
@@ -209,8 +197,6 @@ module _ (π : Presumption) (𝓛 : Laws π) where
 
     module _ (ms : List Message) (st : Run) (h : SafeSt π st) (ty : (s : ℕ) → TidyS π st.plan s (st.station s)) (own : (st.plan r).coordinator ≡ c) (mild : AllByRecursion (Mild r c) ms) (few : length ms < π.size) where
       core_ack : (t : ℕ) (e : CoordinatorEntry) → (st.station c).coordinators r ≡ e → CoPend r c e (letter ACK r t c ∷ ms) → Tri (upon_ack π r c t e 255 0 (with_post ms st))
-      core_ack t none e p = (mild, omega arith, subst (λ (x : CoordinatorEntry). CoPend r c x ms) (sym e) tt)
-      core_ack t (Open a) e p = (mild, omega arith, subst (λ (x : CoordinatorEntry). CoPend r c x ms) (sym e) tt)
       core_ack t (Collecting a ys) e p = absurd p
       core_ack t (Announcing o w) e p =
           cond_both (in_set w t) _ (with_post ms st) Tri
@@ -222,9 +208,10 @@ module _ (π : Presumption) (𝓛 : Laws π) where
           other : (u : ℕ) → in_set w u ≡ true → (t ≡ u → ⊥) → In (letter (outcome_mail o) r c u) ms ⊎ In (letter ACK r u c) ms
           other u m n =
               elim (p u m) [
-                | inl i ↦ elim i [ inl q ↦ absurd (not_ack o (sym (ap (λ (x : Message). x.mail) q))) | inr q ↦ inl q ]
-                | inr i ↦ elim i [ inl q ↦ absurd (n (ap (λ (x : Message). x.from) q)) | inr q ↦ inr q ]
+                | inl i ↦ elim i [ inl q ↦ absurd (not_ack o (sym (ap (λ (x : Message). x.kind) q))) | inr q ↦ inl q ]
+                | inr i ↦ elim i [ inl q ↦ absurd (n (ap (λ (x : Message). x.sender) q)) | inr q ↦ inr q ]
               ]
+      core_ack t v e p = (mild, omega arith, subst (λ (x : CoordinatorEntry). CoPend r c x ms) (sym e) tt)
 
       core_out : (o : Outcome) (s : ℕ) → CoPend r c ((st.station c).coordinators r) (letter (outcome_mail o) r c s ∷ ms) → Tri (upon_outcome π o r s c ((st.station s).subordinates r) 255 0 (with_post ms st))
       core_out o s p = (mild_after, few_after, subst (λ (x : CoordinatorEntry). CoPend r c x v.post) (sym (t.cos c r)) (pend_after ((st.station c).coordinators r) refl p))
@@ -256,8 +243,8 @@ module _ (π : Presumption) (𝓛 : Laws π) where
           pend_ann : (o' : Outcome) (w : ℕ) → (st.station c).coordinators r ≡ Announcing o' w → Pend w o' r c (letter (outcome_mail o) r c s ∷ ms) → Pend w o' r c v.post
           pend_ann o' w e p u m =
               elim (p u m) [
-                | inl i ↦ elim i [ inl q ↦ inr (acked (ap (λ (x : Message). x.to) q) (same_outcome o o' (ap (λ (x : Message). x.mail) q))) | inr q ↦ inl (kept (letter (outcome_mail o') r c u) q) ]
-                | inr i ↦ elim i [ inl q ↦ absurd (not_ack o (ap (λ (x : Message). x.mail) q)) | inr q ↦ inr (kept (letter ACK r u c) q) ]
+                | inl i ↦ elim i [ inl q ↦ inr (acked (ap (λ (x : Message). x.receiver) q) (same_outcome o o' (ap (λ (x : Message). x.kind) q))) | inr q ↦ inl (kept (letter (outcome_mail o') r c u) q) ]
+                | inr i ↦ elim i [ inl q ↦ absurd (not_ack o (ap (λ (x : Message). x.kind) q)) | inr q ↦ inr (kept (letter ACK r u c) q) ]
               ]
             where
               kept : (x : Message) → In x ms → In x v.post
@@ -277,19 +264,15 @@ module _ (π : Presumption) (𝓛 : Laws π) where
                   subst₂' q = subst (λ (x : Outcome). π.acks x s ≡ true) (sym j) (subst (λ (x : ℕ). π.acks o' x ≡ true) (sym i) q)
 
           pend_after : (e : CoordinatorEntry) → (st.station c).coordinators r ≡ e → CoPend r c e (letter (outcome_mail o) r c s ∷ ms) → CoPend r c e v.post
-          pend_after none e p = tt
-          pend_after (Open x) e p = tt
           pend_after (Collecting x y) e p = p
           pend_after (Announcing o' w) e p = pend_ann o' w e p
+          pend_after v e p = tt
 
       pub core : (k : MessageKind) (q s t : ℕ) → MildOf r c k q t s → CoPend r c ((st.station c).coordinators r) (letter k q t s ∷ ms) → Tri (handed π k q s t 255 0 (with_post ms st))
-      core PREPARE q s t e p = absurd e
-      core YES q s t e p = absurd e
-      core NO q s t e p = absurd e
-      core INQUIRY q s t e p = absurd e
       core ACK q s t e p = subst (λ (x : ℕ). Tri (handed π ACK x s t 255 0 (with_post ms st))) (sym e.0) (subst (λ (x : ℕ). Tri (handed π ACK r x t 255 0 (with_post ms st))) (sym e.1) (core_ack t ((st.station c).coordinators r) refl (subst (λ (x : ℕ). CoPend r c ((st.station c).coordinators r) (letter ACK r t x ∷ ms)) e.1 (subst (λ (x : ℕ). CoPend r c ((st.station c).coordinators r) (letter ACK x t s ∷ ms)) e.0 p))))
       core COMMIT q s t e p = subst (λ (x : ℕ). Tri (handed π COMMIT x s t 255 0 (with_post ms st))) (sym e.0) (subst (λ (x : ℕ). Tri (handed π COMMIT r s x 255 0 (with_post ms st))) (sym e.1) (core_out commit s (subst (λ (x : ℕ). CoPend r c ((st.station c).coordinators r) (letter COMMIT r x s ∷ ms)) e.1 (subst (λ (x : ℕ). CoPend r c ((st.station c).coordinators r) (letter COMMIT x t s ∷ ms)) e.0 p))))
       core ABORT q s t e p = subst (λ (x : ℕ). Tri (handed π ABORT x s t 255 0 (with_post ms st))) (sym e.0) (subst (λ (x : ℕ). Tri (handed π ABORT r s x 255 0 (with_post ms st))) (sym e.1) (core_out abort s (subst (λ (x : ℕ). CoPend r c ((st.station c).coordinators r) (letter ABORT r x s ∷ ms)) e.1 (subst (λ (x : ℕ). CoPend r c ((st.station c).coordinators r) (letter ABORT x t s ∷ ms)) e.0 p))))
+      core m q s t e p = absurd e
 
     pub record Mid (st0 st : Run) : Type 0 where
       pub inv : Inv π 𝓛 st
@@ -299,13 +282,10 @@ module _ (π : Presumption) (𝓛 : Laws π) where
       pub tri : Tri st
 
     pub rev_of : (k : MessageKind) (q s t : ℕ) → MildOf r c k q s t → q ≡ r
-    rev_of PREPARE q s t h = absurd h
-    rev_of YES q s t h = absurd h
-    rev_of NO q s t h = absurd h
     rev_of COMMIT q s t h = h.0
     rev_of ABORT q s t h = h.0
     rev_of ACK q s t h = h.0
-    rev_of INQUIRY q s t h = absurd h
+    rev_of m q s t h = absurd h
 
     aside_post : (ms : List Message) (st v : Run) → Aside r (with_post ms st) v → Aside r st v
     aside_post ms st v h = record { plan = h.plan; count = h.count; cos = h.cos; subs = h.subs }
@@ -313,13 +293,13 @@ module _ (π : Presumption) (𝓛 : Laws π) where
     pub mid_first : (st0 : Run) (m : Message) (ms : List Message) (st : Run) → m ∷ ms ≡ st.post → Mid st0 st → Mid st0 (hand_first π m (with_post ms st))
     mid_first st0 m ms st e h =
         let a : Tri (with_post (m ∷ ms) st) = subst (λ (p : List Message). AllByRecursion (Mild r c) p × (length p ≤ π.size) × CoPend r c ((st.station c).coordinators r) p) (sym e) h.tri in
-        let side : Aside r st (handed π m.mail m.revision m.to m.from 255 0 (with_post ms st)) = aside_post ms st _ (subst (λ (x : ℕ). Aside x (with_post ms st) (handed π m.mail m.revision m.to m.from 255 0 (with_post ms st))) (rev_of m.mail m.revision m.from m.to a.0.0) (aside_did π 𝓛 (with_post ms st) m.revision m.to m.from (λ u. For π u m.mail) _ (did_handed π m.mail m.revision m.to m.from 255 0 (with_post ms st)))) in
+        let side : Aside r st (handed π m.kind m.revision m.receiver m.sender 255 0 (with_post ms st)) = aside_post ms st _ (subst (λ (x : ℕ). Aside x (with_post ms st) (handed π m.kind m.revision m.receiver m.sender 255 0 (with_post ms st))) (rev_of m.kind m.revision m.sender m.receiver a.0.0) (aside_did π 𝓛 (with_post ms st) m.revision m.receiver m.sender (λ u. For π u m.kind) _ (did_handed π m.kind m.revision m.receiver m.sender 255 0 (with_post ms st)))) in
         record {
           inv = inv_first π 𝓛 m ms st e h.inv;
           on = on_first π 𝓛 m ms st h.on;
           own = rw (first_on π 𝓛 m ms st h.on) (ap (λ (f : ℕ → Plan). (f r).coordinator) side.plan ∙ h.own);
           side = rw (first_on π 𝓛 m ms st h.on) (aside_trans r st0 st _ h.side side);
-          tri = rw (first_on π 𝓛 m ms st h.on) (core ms st h.inv.safe h.inv.tidy h.own a.0.1 (omega (arith, a.1)) m.mail m.revision m.to m.from a.0.0 a.2);
+          tri = rw (first_on π 𝓛 m ms st h.on) (core ms st h.inv.safe h.inv.tidy h.own a.0.1 (omega (arith, a.1)) m.kind m.revision m.receiver m.sender a.0.0 a.2);
         }
 
     -- when nothing waits nobody is awaited

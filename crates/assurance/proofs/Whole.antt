@@ -1,11 +1,11 @@
 -- What a whole step leaves at the other stations and for the other revisions.
-use Rattle.std.proofs.Common.{◌≡◌, ℕ, true, eqb, List, [], ◌∷◌, sym, refl, ap, ◌∙◌, subst}
+use Rattle.std.proofs.Common.{◌≡◌, ℕ, true, eqb, List, sym, refl, ap, ◌∙◌, subst}
 use Rattle.std.proofs.lemmas.Bool.{cond_both, cond-true, cond-false, true≢false, eqb-true, eq-eqb, ne_eqb}
-use Rattle.assurance.proofs.Ideal.{CoordinatorEntry, none, Open, Collecting, Announcing, SubordinateEntry, idle, Active, Prepared, Station, Message, Run, Presumption, set_coordinator, set_subordinate, with_message, marked_installed, marked_dropped, with_post, Act, write, force, send, installed, dropped, act_done, acts_done, Turn, stay, to_coordinator, to_subordinate, turn, handed, hand_first}
+use Rattle.assurance.proofs.Ideal.{CoordinatorEntry, Collecting, Announcing, SubordinateEntry, idle, Prepared, Station, Message, Run, Presumption, set_coordinator, set_subordinate, with_post, Act, acts_done, Turn, stay, to_coordinator, to_subordinate, turn, handed, hand_first}
 use Rattle.assurance.proofs.Claims.{Laws}
 use Rattle.assurance.proofs.SafeActs.{upd_same}
-use Rattle.assurance.proofs.Tidy.{locals, turned_station}
-use Rattle.assurance.proofs.Rules.{Rule, vote, again, refuse, joins, decide, drop, enforce, confirm, less, finish, answer, start, deny, press, asks, acts_of, turn_of, For, Did, by_did, did_handed, whole, moved, same_locals}
+use Rattle.assurance.proofs.Rules.{Rule, again, refuse, confirm, answer, press, asks, acts_of, turn_of, For, Did, by_did, did_handed, whole}
+use Rattle.assurance.proofs.Local.{locals, turned_station, turned_power, moved, same_locals, plan_acts, plan_turn}
 
 -- all have power
 abbrev pub On : Run → Type 0
@@ -25,15 +25,13 @@ pub aside_trans : (r : ℕ) (a b c : Run) → Aside r a b → Aside r b c → As
 aside_trans r a b c h k = record { plan = k.plan ∙ h.plan; count = k.count ∙ h.count; cos = λ t q n. k.cos t q n ∙ h.cos t q n; subs = λ t q n. k.subs t q n ∙ h.subs t q n }
 
 abbrev pub Sure : SubordinateEntry → Type 0
-Sure idle = Unit {0}
-Sure (Active c) = Unit {0}
 Sure (Prepared c) = ⊥
+Sure e = Unit {0}
 
 abbrev pub Rested : CoordinatorEntry → Type 0
-Rested none = Unit {0}
-Rested (Open a) = Unit {0}
 Rested (Collecting a y) = ⊥
 Rested (Announcing o w) = ⊥
+Rested e = Unit {0}
 
 abbrev pub About : ℕ → Turn → Type 0
 About r stay = Unit {0}
@@ -42,52 +40,28 @@ About r (to_subordinate q e) = q ≡ r
 
 -- a turn that makes nobody doubtful
 abbrev pub Calm : Turn → Type 0
-Calm stay = Unit {0}
-Calm (to_coordinator q e) = Unit {0}
 Calm (to_subordinate q e) = Sure e
+Calm tn = Unit {0}
 
 abbrev pub NoCo : Turn → Type 0
-NoCo stay = Unit {0}
 NoCo (to_coordinator q e) = ⊥
-NoCo (to_subordinate q e) = Unit {0}
-
-plan_acts : (s : ℕ) (l : List Act) (st : Run) → ((acts_done s l st).plan ≡ st.plan) × ((acts_done s l st).count ≡ st.count)
-plan_acts s [] st = (refl, refl)
-plan_acts s (write x ∷ l) st = plan_acts s l (act_done s (write x) st)
-plan_acts s (force ∷ l) st = plan_acts s l (act_done s force st)
-plan_acts s (send m ∷ l) st = plan_acts s l (with_message m st)
-plan_acts s (installed r ∷ l) st = plan_acts s l (marked_installed r s st)
-plan_acts s (dropped r ∷ l) st = plan_acts s l (marked_dropped r s st)
-
-plan_turn : (s : ℕ) (tn : Turn) (st : Run) → ((turn s tn st).plan ≡ st.plan) × ((turn s tn st).count ≡ st.count)
-plan_turn s stay st = (refl, refl)
-plan_turn s (to_coordinator r e) st = (refl, refl)
-plan_turn s (to_subordinate r e) st = (refl, refl)
-
-turned_power : (tn : Turn) (y : Station) → (turned_station tn y).power ≡ y.power
-turned_power stay y = refl
-turned_power (to_coordinator r e) y = refl
-turned_power (to_subordinate r e) y = refl
+NoCo tn = Unit {0}
 
 turned_co : (r q : ℕ) (tn : Turn) (y : Station) → About r tn → (q ≡ r → ⊥) → (turned_station tn y).coordinators q ≡ y.coordinators q
-turned_co r q stay y a n = refl
 turned_co r q (to_coordinator p e) y a n = cond-false (eqb p q) e (y.coordinators q) (ne_eqb p q (λ i. n (sym i ∙ a)))
-turned_co r q (to_subordinate p e) y a n = refl
+turned_co r q tn y a n = refl
 
 turned_sub : (r q : ℕ) (tn : Turn) (y : Station) → About r tn → (q ≡ r → ⊥) → (turned_station tn y).subordinates q ≡ y.subordinates q
-turned_sub r q stay y a n = refl
-turned_sub r q (to_coordinator p e) y a n = refl
 turned_sub r q (to_subordinate p e) y a n = cond-false (eqb p q) e (y.subordinates q) (ne_eqb p q (λ i. n (sym i ∙ a)))
+turned_sub r q tn y a n = refl
 
 turned_same : (q : ℕ) (tn : Turn) (y : Station) → NoCo tn → (turned_station tn y).coordinators q ≡ y.coordinators q
-turned_same q stay y n = refl
 turned_same q (to_coordinator p e) y n = absurd n
-turned_same q (to_subordinate p e) y n = refl
+turned_same q tn y n = refl
 
 turned_sure : (q : ℕ) (tn : Turn) (y : Station) → Calm tn → Sure (y.subordinates q) → Sure ((turned_station tn y).subordinates q)
-turned_sure q stay y c h = h
-turned_sure q (to_coordinator p e) y c h = h
 turned_sure q (to_subordinate p e) y c h = cond_both (eqb p q) e (y.subordinates q) Sure (λ _. c) (λ _. h)
+turned_sure q tn y c h = h
 
 module _ (s : ℕ) (l : List Act) (tn : Turn) (st : Run) where
   abbrev v : Run
@@ -122,21 +96,13 @@ co_now s r e l st = subst (λ (y : Station). y.coordinators r ≡ e) (sym (moved
 
 module _ (π : Presumption) (𝓛 : Laws π) where
   pub about_rule : (u : Rule) (r : ℕ) → About r (turn_of π u r)
-  about_rule (vote c) r = refl
   about_rule again r = tt
   about_rule refuse r = tt
-  about_rule (joins all ys) r = refl
-  about_rule (decide all) r = refl
-  about_rule (drop all d) r = refl
-  about_rule (enforce o c) r = refl
   about_rule (confirm o) r = tt
-  about_rule (less o w) r = refl
-  about_rule finish r = refl
   about_rule (answer o) r = tt
-  about_rule (start all) r = refl
-  about_rule (deny c) r = refl
   about_rule (press o w) r = tt
   about_rule (asks c) r = tt
+  about_rule u r = refl
 
   pub on_did : (st : Run) (r s t : ℕ) (P : Rule → Type 0) (v : Run) → Did π st r s t 255 0 P v → On st → On v
   on_did st r s t P v d h = by_did π On st r s t 255 0 P v d h (λ u w _. subst On (sym (whole π 𝓛 u r s t st)) (on_moved s (acts_of π u r s t) (turn_of π u r) st h))
@@ -145,8 +111,8 @@ module _ (π : Presumption) (𝓛 : Laws π) where
   aside_did st r s t P v d = by_did π (Aside r st) st r s t 255 0 P v d (aside_refl r st) (λ u w _. subst (Aside r st) (sym (whole π 𝓛 u r s t st)) (aside_moved s (acts_of π u r s t) (turn_of π u r) st r (about_rule u r)))
 
   pub on_first : (m : Message) (ms : List Message) (st : Run) → On st → On (hand_first π m (with_post ms st))
-  on_first m ms st h = cond_both (st.station m.to).power (handed π m.mail m.revision m.to m.from 255 0 (with_post ms st)) (with_post ms st) On (λ _. on_did (with_post ms st) m.revision m.to m.from (λ u. For π u m.mail) _ (did_handed π m.mail m.revision m.to m.from 255 0 (with_post ms st)) h) (λ _. h)
+  on_first m ms st h = cond_both (st.station m.receiver).power (handed π m.kind m.revision m.receiver m.sender 255 0 (with_post ms st)) (with_post ms st) On (λ _. on_did (with_post ms st) m.revision m.receiver m.sender (λ u. For π u m.kind) _ (did_handed π m.kind m.revision m.receiver m.sender 255 0 (with_post ms st)) h) (λ _. h)
 
   -- with power everywhere the first message is handed over
-  pub first_on : (m : Message) (ms : List Message) (st : Run) → On st → hand_first π m (with_post ms st) ≡ handed π m.mail m.revision m.to m.from 255 0 (with_post ms st)
-  first_on m ms st h = cond-true (st.station m.to).power _ _ (h m.to)
+  pub first_on : (m : Message) (ms : List Message) (st : Run) → On st → hand_first π m (with_post ms st) ≡ handed π m.kind m.revision m.receiver m.sender 255 0 (with_post ms st)
+  first_on m ms st h = cond-true (st.station m.receiver).power _ _ (h m.receiver)

@@ -1,12 +1,12 @@
 -- No write of a step that a call asks for is refused.
-use Rattle.std.proofs.Common.{◌≡◌, ℕ, zero, suc, ◌<◌, ◌≤◌, List, [], ◌∷◌, map, length, Some, None, Option, refl, subst}
+use Rattle.std.proofs.Common.{◌≡◌, ℕ, zero, suc, ◌<◌, ◌≤◌, List, [], ◌∷◌, length, Some, None, Option, refl, subst}
 use Rattle.std.specs.List.{AllByRecursion, slice_get}
 use Rattle.std.specs.Option.{option_map}
 use Rattle.presumption.specs.Answers.{Answers, Lawful}
 use Rattle.presumption.specs.declared.outcome.Outcome.TheVariants as outcome
 use Rattle.run.specs.Calls.{coordinator_of, coordinator_entry}
 use Rattle.assurance.specs.declared.calls.Call.{Call}
-use Rattle.assurance.specs.declared.calls.Call.TheVariants.{Open, Close, GiveUp, Chase, Reject, Inquire, Deliver, Lose, Cut, Restart, Settle, Awaited}
+use Rattle.assurance.specs.declared.calls.Call.TheVariants.{Close, GiveUp, Chase, Reject, Inquire, Deliver}
 use Rattle.run.specs.State.{State}
 use Rattle.stations.specs.Stations.{subordinate_at}
 use Rattle.station.specs.Acts.{acts}
@@ -22,7 +22,7 @@ use Rattle.assurance.proofs.Ideal as ideal
 use Rattle.assurance.proofs.Lasting.{world, Legal}
 use Rattle.assurance.proofs.Ranges.{NearM}
 use Rattle.assurance.proofs.SafeRules.{has_legal}
-use Rattle.assurance.proofs.View.{message_as, view}
+use Rattle.assurance.proofs.View.{view}
 use Rattle.assurance.proofs.Moves.{presumes, Good}
 use Rattle.assurance.proofs.Heard.{co_legal, sub_legal, heard_view, closes, gives_up_open, gives_up, chases, rejects, inquires}
 
@@ -46,45 +46,38 @@ module _ (π : Answers) (𝓗 : Lawful π) (n : ℕ) (two : 2 ≤ n) (eight : n 
     here = g.full.near.plans r
 
     close_done : (e : CoordinatorEntry) → coordinator_entry r st ≡ e → Done (option_map (due_of s r) (close_move e))
-    close_done coordinator.None q = tt
     close_done (coordinator.Open x) q = (closes π 𝓗 n two eight st g r s 0 0 here (co_legal π 𝓗 n two eight st g s r (coordinator.Open x) q).0 x q).1
-    close_done (coordinator.Collecting x y) q = tt
-    close_done (coordinator.Announcing o w) q = tt
+    close_done e q = tt
 
     give_up_done : (e : CoordinatorEntry) → coordinator_entry r st ≡ e → Done (option_map (due_of s r) (give_up_move π e))
-    give_up_done coordinator.None q = tt
     give_up_done (coordinator.Open x) q = (gives_up_open π 𝓗 n two eight st g r s 0 0 here (co_legal π 𝓗 n two eight st g s r (coordinator.Open x) q).0 x q).1
     give_up_done (coordinator.Collecting x y) q = (gives_up π 𝓗 n two eight st g r s 0 0 here (co_legal π 𝓗 n two eight st g s r (coordinator.Collecting x y) q).0 x y q).1
-    give_up_done (coordinator.Announcing o w) q = tt
+    give_up_done e q = tt
 
     chase_done : (e : CoordinatorEntry) → coordinator_entry r st ≡ e → Done (option_map (due_of s r) (chase_move e))
-    chase_done coordinator.None q = tt
-    chase_done (coordinator.Open x) q = tt
-    chase_done (coordinator.Collecting x y) q = tt
     chase_done (coordinator.Announcing outcome.Commit w) q = (chases π 𝓗 n two eight st g r s 0 0 here (co_legal π 𝓗 n two eight st g s r (coordinator.Announcing outcome.Commit w) q).0 outcome.Commit w q).1
     chase_done (coordinator.Announcing outcome.Abort w) q = (chases π 𝓗 n two eight st g r s 0 0 here (co_legal π 𝓗 n two eight st g s r (coordinator.Announcing outcome.Abort w) q).0 outcome.Abort w q).1
+    chase_done e q = tt
 
   module _ (r s : ℕ) where
     reject_done : (e : SubordinateEntry) → subordinate_at st.stations s r ≡ e → Done (option_map (due_of s r) (reject_move e))
-    reject_done subordinate.None q = tt
     reject_done (subordinate.Active c) q =
         let l = sub_legal π 𝓗 n two eight st g s r (subordinate.Active c) q in
         (rejects π 𝓗 n two eight st g r s 0 0 (g.full.near.sets r s l.2) l.0 c q).1
-    reject_done (subordinate.Prepared c) q = tt
+    reject_done e q = tt
 
     inquire_done : (e : SubordinateEntry) → subordinate_at st.stations s r ≡ e → Done (option_map (due_of s r) (inquire_move e))
-    inquire_done subordinate.None q = tt
-    inquire_done (subordinate.Active c) q = tt
     inquire_done (subordinate.Prepared c) q =
         let l = sub_legal π 𝓗 n two eight st g s r (subordinate.Prepared c) q in
         let p = has_legal Q (world V) s ideal.kp r (V.station s).stable (g.full.inv.safe.recs s).0 l.2 in
         (inquires π 𝓗 n two eight st g r s 0 0 (g.full.near.sets r s p.1.1) l.0 c q).1
+    inquire_done e q = tt
 
   -- a message that waits, of stations that are there about a revision that was opened
   heard_done : (m : Message) → m.receiver < n → m.sender < n → m.revision < length st.store.log → Done (Some (due_to π st m))
   heard_done m a b c = (heard_view π 𝓗 n two eight st g m.revision m.receiver m.sender 0 0 a c m.kind b).1
 
-  post_done : (p : List Message) (i : ℕ) → AllByRecursion (NearM n) (map message_as p) → AllByRecursion (Legal Q (world V)) (map message_as p) → Done (option_map (due_to π st) (slice_get p i))
+  post_done : (p : List Message) (i : ℕ) → AllByRecursion (NearM n) p → AllByRecursion (Legal Q (world V)) p → Done (option_map (due_to π st) (slice_get p i))
   post_done [] i a b = tt
   post_done (m ∷ p) zero a b = heard_done m a.0.1 a.0.0 b.0.0
   post_done (m ∷ p) (suc i) a b = post_done p i a.1 b.1
@@ -93,15 +86,10 @@ module _ (π : Answers) (𝓗 : Lawful π) (n : ℕ) (two : 2 ≤ n) (eight : n 
   unrefused c d e = subst Done e (go c)
     where
       go : (c : Call) → Done (due π c st)
-      go (Open c x) = tt
-      go (Close r f k) = close_done r (coordinator_entry r st) refl
-      go (GiveUp r f k) = give_up_done r (coordinator_entry r st) refl
-      go (Chase r f k) = chase_done r (coordinator_entry r st) refl
-      go (Reject r s f k) = reject_done r s (subordinate_at st.stations s r) refl
-      go (Inquire r s f k) = inquire_done r s (subordinate_at st.stations s r) refl
-      go (Deliver i copy f k) = post_done st.store.post i g.full.near.posts g.full.inv.safe.msgs
-      go (Lose i) = tt
-      go (Cut s k) = tt
-      go (Restart s) = tt
-      go Settle = tt
-      go (Awaited r) = tt
+      go (Close r f) = close_done r (coordinator_entry r st) refl
+      go (GiveUp r f) = give_up_done r (coordinator_entry r st) refl
+      go (Chase r f) = chase_done r (coordinator_entry r st) refl
+      go (Reject r s f) = reject_done r s (subordinate_at st.stations s r) refl
+      go (Inquire r s f) = inquire_done r s (subordinate_at st.stations s r) refl
+      go (Deliver i copy f) = post_done st.store.post i g.full.near.posts g.full.inv.safe.msgs
+      go e = tt

@@ -7,8 +7,7 @@ use Rattle.presumption.specs.Answers.{Answers, abort_presumed, commit_presumed}
 use Rattle.run.specs.Answers.{Answer, refused, answered}
 use Rattle.assurance.specs.declared.calls.Call.{Call}
 use Rattle.assurance.specs.declared.calls.Call.TheVariants.{Open, Close, GiveUp, Reject, Inquire, Deliver, Lose, Cut, Restart, Settle, Awaited}
-use Rattle.assurance.specs.Lists.{after_calls, answers_of}
-use Rattle.run.specs.Settling.{long_fuse}
+use Rattle.assurance.specs.Lists.{fuse, lasting, after_calls, answers_of}
 use Rattle.run.specs.State.{State, fresh}
 use Rattle.stations.specs.Stations.{power_at, subordinate_at}
 use Rattle.station.specs.Sets.{of_bits}
@@ -63,110 +62,110 @@ nobody = of_bits 0
 abbrev pub both : StationSet
 both = of_bits 6
 
--- Station 0 coordinates revision 0 of the stations 1 and 2 in every run. A long fuse cuts nobody.
+-- Station 0 coordinates revision 0 of the stations 1 and 2 in every run. A lasting fuse cuts nobody.
 abbrev pub marked_runs : List MarkedRun
 marked_runs =
     -- Commit: acknowledged under presumed abort, not under presumed commit.
     record {
       presumption = abort_presumed;
-      calls = Open 0 both ∷ Close 0 long_fuse 0 ∷ Settle ∷ [];
+      calls = Open 0 both ∷ Close 0 lasting ∷ Settle ∷ [];
       expected = record { answers = answered 0 ∷ answered 2 ∷ answered 8 ∷ []; installed = both; dropped = nobody; power = true; entry = None; waiting = [] };
     }
     ∷ record {
       presumption = commit_presumed;
-      calls = Open 0 both ∷ Close 0 long_fuse 0 ∷ Settle ∷ [];
+      calls = Open 0 both ∷ Close 0 lasting ∷ Settle ∷ [];
       expected = record { answers = answered 0 ∷ answered 4 ∷ answered 6 ∷ []; installed = both; dropped = nobody; power = true; entry = None; waiting = [] };
     }
     -- Abort: the other way round.
     ∷ record {
       presumption = abort_presumed;
-      calls = Open 0 both ∷ Close 0 long_fuse 0 ∷ GiveUp 0 long_fuse 0 ∷ Settle ∷ [];
+      calls = Open 0 both ∷ Close 0 lasting ∷ GiveUp 0 lasting ∷ Settle ∷ [];
       expected = record { answers = answered 0 ∷ answered 2 ∷ answered 3 ∷ answered 6 ∷ []; installed = nobody; dropped = both; power = true; entry = None; waiting = [] };
     }
     ∷ record {
       presumption = commit_presumed;
-      calls = Open 0 both ∷ Close 0 long_fuse 0 ∷ GiveUp 0 long_fuse 0 ∷ Settle ∷ [];
+      calls = Open 0 both ∷ Close 0 lasting ∷ GiveUp 0 lasting ∷ Settle ∷ [];
       expected = record { answers = answered 0 ∷ answered 4 ∷ answered 2 ∷ answered 8 ∷ []; installed = nobody; dropped = both; power = true; entry = None; waiting = [] };
     }
     -- Station 1 is cut after one act of its vote, and nothing is kept: it has not voted.
     ∷ record {
       presumption = abort_presumed;
-      calls = Open 0 both ∷ Close 0 long_fuse 0 ∷ Deliver 0 false 1 0 ∷ Restart 1 ∷ [];
+      calls = Open 0 both ∷ Close 0 lasting ∷ Deliver 0 false (fuse 1 0) ∷ Restart 1 ∷ [];
       expected = record { answers = answered 0 ∷ answered 2 ∷ answered 1 ∷ answered 0 ∷ []; installed = nobody; dropped = nobody; power = true; entry = None; waiting = Prepare ∷ [] };
     }
     ∷ record {
       presumption = commit_presumed;
-      calls = Open 0 both ∷ Close 0 long_fuse 0 ∷ Deliver 0 false 1 0 ∷ Restart 1 ∷ [];
+      calls = Open 0 both ∷ Close 0 lasting ∷ Deliver 0 false (fuse 1 0) ∷ Restart 1 ∷ [];
       expected = record { answers = answered 0 ∷ answered 4 ∷ answered 1 ∷ answered 0 ∷ []; installed = nobody; dropped = nobody; power = true; entry = None; waiting = Prepare ∷ [] };
     }
     -- The same with the record kept: it is in doubt, and its YES was not posted.
     ∷ record {
       presumption = abort_presumed;
-      calls = Open 0 both ∷ Close 0 long_fuse 0 ∷ Deliver 0 false 1 1 ∷ Restart 1 ∷ [];
+      calls = Open 0 both ∷ Close 0 lasting ∷ Deliver 0 false (fuse 1 1) ∷ Restart 1 ∷ [];
       expected = record { answers = answered 0 ∷ answered 2 ∷ answered 1 ∷ answered 0 ∷ []; installed = nobody; dropped = nobody; power = true; entry = Prepared 0; waiting = Prepare ∷ [] };
     }
     ∷ record {
       presumption = commit_presumed;
-      calls = Open 0 both ∷ Close 0 long_fuse 0 ∷ Deliver 0 false 1 1 ∷ Restart 1 ∷ [];
+      calls = Open 0 both ∷ Close 0 lasting ∷ Deliver 0 false (fuse 1 1) ∷ Restart 1 ∷ [];
       expected = record { answers = answered 0 ∷ answered 4 ∷ answered 1 ∷ answered 0 ∷ []; installed = nobody; dropped = nobody; power = true; entry = Prepared 0; waiting = Prepare ∷ [] };
     }
     -- A fuse as long as the step: it is done whole.
     ∷ record {
       presumption = abort_presumed;
-      calls = Open 0 both ∷ Close 0 long_fuse 0 ∷ Deliver 0 false 3 0 ∷ [];
+      calls = Open 0 both ∷ Close 0 lasting ∷ Deliver 0 false (fuse 3 0) ∷ [];
       expected = record { answers = answered 0 ∷ answered 2 ∷ answered 3 ∷ []; installed = nobody; dropped = nobody; power = true; entry = Prepared 0; waiting = Prepare ∷ Yes ∷ [] };
     }
     ∷ record {
       presumption = commit_presumed;
-      calls = Open 0 both ∷ Close 0 long_fuse 0 ∷ Deliver 0 false 3 0 ∷ [];
+      calls = Open 0 both ∷ Close 0 lasting ∷ Deliver 0 false (fuse 3 0) ∷ [];
       expected = record { answers = answered 0 ∷ answered 4 ∷ answered 3 ∷ []; installed = nobody; dropped = nobody; power = true; entry = Prepared 0; waiting = Prepare ∷ Yes ∷ [] };
     }
     -- Station 1 loses its record of a commit, is in doubt again, and learns the commit that is presumed.
     ∷ record {
       presumption = commit_presumed;
-      calls = Open 0 both ∷ Close 0 long_fuse 0 ∷ Settle ∷ Cut 1 0 ∷ Restart 1 ∷ Settle ∷ [];
+      calls = Open 0 both ∷ Close 0 lasting ∷ Settle ∷ Cut 1 0 ∷ Restart 1 ∷ Settle ∷ [];
       expected = record { answers = answered 0 ∷ answered 4 ∷ answered 6 ∷ answered 0 ∷ answered 0 ∷ answered 2 ∷ []; installed = both; dropped = nobody; power = true; entry = None; waiting = [] };
     }
     -- The opening record is stable before PREPARE leaves: a coordinator cut in between drops what one station voted for.
     ∷ record {
       presumption = commit_presumed;
-      calls = Open 0 both ∷ Close 0 3 0 ∷ Deliver 0 false long_fuse 0 ∷ Reject 0 2 long_fuse 0 ∷ Restart 0 ∷ Settle ∷ [];
+      calls = Open 0 both ∷ Close 0 (fuse 3 0) ∷ Deliver 0 false lasting ∷ Reject 0 2 lasting ∷ Restart 0 ∷ Settle ∷ [];
       expected = record { answers = answered 0 ∷ answered 3 ∷ answered 3 ∷ answered 3 ∷ answered 0 ∷ answered 5 ∷ []; installed = nobody; dropped = both; power = true; entry = None; waiting = [] };
     }
     -- p is stable before YES leaves: a station cut in between is in doubt, and its vote is missing.
     ∷ record {
       presumption = abort_presumed;
-      calls = Open 0 both ∷ Close 0 long_fuse 0 ∷ Deliver 0 false 2 0 ∷ Restart 1 ∷ Settle ∷ [];
+      calls = Open 0 both ∷ Close 0 lasting ∷ Deliver 0 false (fuse 2 0) ∷ Restart 1 ∷ Settle ∷ [];
       expected = record { answers = answered 0 ∷ answered 2 ∷ answered 2 ∷ answered 0 ∷ answered 4 ∷ []; installed = nobody; dropped = both; power = true; entry = None; waiting = [] };
     }
     -- The mark comes before c: a station cut in between is told again, and has installed.
     ∷ record {
       presumption = abort_presumed;
-      calls = Open 0 both ∷ Close 0 long_fuse 0 ∷ Deliver 0 false long_fuse 0 ∷ Deliver 0 false long_fuse 0 ∷ Deliver 0 false long_fuse 0 ∷ Deliver 0 false long_fuse 0 ∷ Deliver 0 false 1 1 ∷ Restart 1 ∷ Settle ∷ [];
+      calls = Open 0 both ∷ Close 0 lasting ∷ Deliver 0 false lasting ∷ Deliver 0 false lasting ∷ Deliver 0 false lasting ∷ Deliver 0 false lasting ∷ Deliver 0 false (fuse 1 1) ∷ Restart 1 ∷ Settle ∷ [];
       expected = record { answers = answered 0 ∷ answered 2 ∷ answered 3 ∷ answered 3 ∷ answered 0 ∷ answered 4 ∷ answered 1 ∷ answered 0 ∷ answered 4 ∷ []; installed = both; dropped = nobody; power = true; entry = None; waiting = [] };
     }
     -- A COMMIT that is presumed for a late inquiry about a forgotten abort installs nothing.
     ∷ record {
       presumption = commit_presumed;
-      calls = Open 0 both ∷ Close 0 long_fuse 0 ∷ Deliver 0 false long_fuse 0 ∷ Inquire 0 1 long_fuse 0 ∷ GiveUp 0 long_fuse 0 ∷ Deliver 3 false long_fuse 0 ∷ Deliver 3 false long_fuse 0 ∷ Deliver 3 false long_fuse 0 ∷ Deliver 3 false long_fuse 0 ∷ Settle ∷ [];
+      calls = Open 0 both ∷ Close 0 lasting ∷ Deliver 0 false lasting ∷ Inquire 0 1 lasting ∷ GiveUp 0 lasting ∷ Deliver 3 false lasting ∷ Deliver 3 false lasting ∷ Deliver 3 false lasting ∷ Deliver 3 false lasting ∷ Settle ∷ [];
       expected = record { answers = answered 0 ∷ answered 4 ∷ answered 3 ∷ answered 1 ∷ answered 2 ∷ answered 4 ∷ answered 4 ∷ answered 0 ∷ answered 1 ∷ answered 5 ∷ []; installed = nobody; dropped = both; power = true; entry = None; waiting = [] };
     }
     -- The coordinator forgets only after the last ACK: a COMMIT that was lost is told again.
     ∷ record {
       presumption = abort_presumed;
-      calls = Open 0 both ∷ Close 0 long_fuse 0 ∷ Deliver 0 false long_fuse 0 ∷ Deliver 0 false long_fuse 0 ∷ Deliver 0 false long_fuse 0 ∷ Deliver 0 false long_fuse 0 ∷ Deliver 0 false long_fuse 0 ∷ Deliver 1 false long_fuse 0 ∷ Lose 0 ∷ Settle ∷ [];
+      calls = Open 0 both ∷ Close 0 lasting ∷ Deliver 0 false lasting ∷ Deliver 0 false lasting ∷ Deliver 0 false lasting ∷ Deliver 0 false lasting ∷ Deliver 0 false lasting ∷ Deliver 1 false lasting ∷ Lose 0 ∷ Settle ∷ [];
       expected = record { answers = answered 0 ∷ answered 2 ∷ answered 3 ∷ answered 3 ∷ answered 0 ∷ answered 4 ∷ answered 4 ∷ answered 0 ∷ answered 0 ∷ answered 2 ∷ []; installed = both; dropped = nobody; power = true; entry = None; waiting = [] };
     }
     -- The record of an acknowledged outcome is forced: a station cut afterwards is not in doubt.
     ∷ record {
       presumption = abort_presumed;
-      calls = Open 0 both ∷ Close 0 long_fuse 0 ∷ Settle ∷ Cut 1 0 ∷ Restart 1 ∷ Settle ∷ [];
+      calls = Open 0 both ∷ Close 0 lasting ∷ Settle ∷ Cut 1 0 ∷ Restart 1 ∷ Settle ∷ [];
       expected = record { answers = answered 0 ∷ answered 2 ∷ answered 8 ∷ answered 0 ∷ answered 0 ∷ answered 0 ∷ []; installed = both; dropped = nobody; power = true; entry = None; waiting = [] };
     }
     -- Refused calls among the others, and whom the coordinator awaits.
     ∷ record {
       presumption = abort_presumed;
-      calls = Awaited 0 ∷ Open 0 nobody ∷ Deliver 0 false long_fuse 0 ∷ Open 0 both ∷ Close 0 long_fuse 0 ∷ Close 0 long_fuse 0 ∷ Restart 1 ∷ Awaited 0 ∷ Deliver 0 false long_fuse 0 ∷ Deliver 1 false long_fuse 0 ∷ Awaited 0 ∷ Cut 1 0 ∷ Settle ∷ Restart 1 ∷ Settle ∷ [];
+      calls = Awaited 0 ∷ Open 0 nobody ∷ Deliver 0 false lasting ∷ Open 0 both ∷ Close 0 lasting ∷ Close 0 lasting ∷ Restart 1 ∷ Awaited 0 ∷ Deliver 0 false lasting ∷ Deliver 1 false lasting ∷ Awaited 0 ∷ Cut 1 0 ∷ Settle ∷ Restart 1 ∷ Settle ∷ [];
       expected = record { answers = refused 3 ∷ refused 2 ∷ refused 7 ∷ answered 0 ∷ answered 2 ∷ refused 6 ∷ refused 8 ∷ answered 2 ∷ answered 3 ∷ answered 0 ∷ answered 1 ∷ answered 0 ∷ refused 4 ∷ answered 0 ∷ answered 6 ∷ []; installed = both; dropped = nobody; power = true; entry = None; waiting = [] };
     }
     ∷ []

@@ -10,8 +10,8 @@ use Rattle.run.specs.Answers.{answered}
 use Rattle.run.specs.Calls.{coordinator_of, named?}
 use Rattle.assurance.specs.declared.calls.Call.{Call}
 use Rattle.assurance.specs.declared.calls.Call.TheVariants.{Open, Close, Settle}
-use Rattle.assurance.specs.Lists.{called, after_calls}
-use Rattle.run.specs.Settling.{settled, long_fuse}
+use Rattle.assurance.specs.Lists.{lasting, called, after_calls}
+use Rattle.run.specs.Settling.{settled}
 use Rattle.run.specs.State.{State, least_capacity, fits, fresh}
 use Rattle.stations.specs.Stations.{power_at, coordinator_at, subordinate_at}
 use Rattle.station.specs.Recovery.{has_record}
@@ -108,7 +108,7 @@ pub record Sound (π : Answers) (st : State) : Type 0 where
 abbrev pub FourEach : Answers → List Section → Type 0
 FourEach π m =
     (c : ℕ) (set : StationSet) → (named? c set (fresh m)).1 ≡ true →
-    (settled π (after_calls π (Open c set ∷ Close 0 long_fuse 0 ∷ []) (fresh m))).deliveries ≤ 4 * length (members set)
+    (settled π (after_calls π (Open c set ∷ Close 0 lasting ∷ []) (fresh m))).deliveries ≤ 4 * length (members set)
 
 -- Under every lawful presumption, on every journal that fits, after every list of calls.
 abbrev pub OneOutcome : Type 0

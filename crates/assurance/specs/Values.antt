@@ -32,12 +32,12 @@ CountsActs v = (n : ℕ) × (v ≡ value.Acts n)
 -- The value is of the call's kind. One that names a station awaited names one that was not heard from.
 abbrev pub Suits : Call → State → Value → Type 0
 Suits (call.Open c set) st v = (n : ℕ) × (v ≡ value.Revision n)
-Suits (call.Close r f k) st v = CountsActs v
-Suits (call.GiveUp r f k) st v = CountsActs v
-Suits (call.Chase r f k) st v = CountsActs v
-Suits (call.Reject r s f k) st v = CountsActs v
-Suits (call.Inquire r s f k) st v = CountsActs v
-Suits (call.Deliver i copy f k) st v = CountsActs v
+Suits (call.Close r f) st v = CountsActs v
+Suits (call.GiveUp r f) st v = CountsActs v
+Suits (call.Chase r f) st v = CountsActs v
+Suits (call.Reject r s f) st v = CountsActs v
+Suits (call.Inquire r s f) st v = CountsActs v
+Suits (call.Deliver i copy f) st v = CountsActs v
 Suits (call.Lose i) st v = v ≡ value.Nothing
 Suits (call.Cut s k) st v = v ≡ value.Nothing
 Suits (call.Restart s) st v = v ≡ value.Nothing

@@ -47,12 +47,12 @@ due_to π st m = due_of m.receiver m.revision (heard π st.stations m)
 -- The step that a call has a station take, if the entry allows the call, or if a message waits there.
 abbrev pub due : Answers → Call → State → Option Due
 due π (Open c set) st = None
-due π (Close r f k) st = option_map (due_of (coordinator_of r st) r) (close_move (coordinator_entry r st))
-due π (GiveUp r f k) st = option_map (due_of (coordinator_of r st) r) (give_up_move π (coordinator_entry r st))
-due π (Chase r f k) st = option_map (due_of (coordinator_of r st) r) (chase_move (coordinator_entry r st))
-due π (Reject r s f k) st = option_map (due_of s r) (reject_move (subordinate_at st.stations s r))
-due π (Inquire r s f k) st = option_map (due_of s r) (inquire_move (subordinate_at st.stations s r))
-due π (Deliver i copy f k) st = option_map (due_to π st) (slice_get st.store.post i)
+due π (Close r f) st = option_map (due_of (coordinator_of r st) r) (close_move (coordinator_entry r st))
+due π (GiveUp r f) st = option_map (due_of (coordinator_of r st) r) (give_up_move π (coordinator_entry r st))
+due π (Chase r f) st = option_map (due_of (coordinator_of r st) r) (chase_move (coordinator_entry r st))
+due π (Reject r s f) st = option_map (due_of s r) (reject_move (subordinate_at st.stations s r))
+due π (Inquire r s f) st = option_map (due_of s r) (inquire_move (subordinate_at st.stations s r))
+due π (Deliver i copy f) st = option_map (due_to π st) (slice_get st.store.post i)
 due π (Lose i) st = None
 due π (Cut s k) st = None
 due π (Restart s) st = None
@@ -66,12 +66,12 @@ Unrefused π st c = (d : Due) → due π c st ≡ Some d → Accepted d.station 
 -- Every call but Settle.
 abbrev pub Plain : Call → Type 0
 Plain (Open c set) = Unit {0}
-Plain (Close r f k) = Unit {0}
-Plain (GiveUp r f k) = Unit {0}
-Plain (Chase r f k) = Unit {0}
-Plain (Reject r s f k) = Unit {0}
-Plain (Inquire r s f k) = Unit {0}
-Plain (Deliver i copy f k) = Unit {0}
+Plain (Close r f) = Unit {0}
+Plain (GiveUp r f) = Unit {0}
+Plain (Chase r f) = Unit {0}
+Plain (Reject r s f) = Unit {0}
+Plain (Inquire r s f) = Unit {0}
+Plain (Deliver i copy f) = Unit {0}
 Plain (Lose i) = Unit {0}
 Plain (Cut s k) = Unit {0}
 Plain (Restart s) = Unit {0}

@@ -1,21 +1,19 @@
 //! The calls of a run as values.
 ghost use Rattle.std.specs.Prelude.{◌≡◌, IfOk};
 ghost use Rattle.assurance.specs.Lists.{called};
-ghost use Rattle.assurance.specs.Values.{reported, CountsActs, Suits};
-ghost use Rattle.run.specs.Answers.{answer_of, plain_answer};
+ghost use Rattle.assurance.specs.Values.{reported, Suits};
 ghost use Rattle.run.specs.Calls.{reply};
-ghost use Rattle.run.specs.Runs.{seen};
 
 use journal::calls::Journal;
 use presumption::Presumption;
+use run::Fuse;
 use run::refusals::Refusal;
 use run::run::Run;
 use run::run::settling::Awaited;
 use station::sets::StationSet;
 
-/// A call of a run, with its arguments. A `fuse` is how many acts the step may do before the power fails,
-/// and `kept` how many unforced records the journal then keeps.
-#[derive(Clone, Copy)]
+/// A call of a run, with its arguments.
+#[derive(Clone, Copy, Debug, PartialEq, Eq)]
 pub enum Call {
     Open {
         coordinator: u8,
@@ -23,36 +21,30 @@ pub enum Call {
     },
     Close {
         revision: u16,
-        fuse: u8,
-        kept: u8,
+        fuse: Fuse,
     },
     GiveUp {
         revision: u16,
-        fuse: u8,
-        kept: u8,
+        fuse: Fuse,
     },
     Chase {
         revision: u16,
-        fuse: u8,
-        kept: u8,
+        fuse: Fuse,
     },
     Reject {
         revision: u16,
         station: u8,
-        fuse: u8,
-        kept: u8,
+        fuse: Fuse,
     },
     Inquire {
         revision: u16,
         station: u8,
-        fuse: u8,
-        kept: u8,
+        fuse: Fuse,
     },
     Deliver {
         place: usize,
         copy: bool,
-        fuse: u8,
-        kept: u8,
+        fuse: Fuse,
     },
     Lose {
         place: usize,
@@ -71,7 +63,7 @@ pub enum Call {
 }
 
 /// What a call answered that was not refused.
-#[derive(Clone, Copy)]
+#[derive(Clone, Copy, Debug, PartialEq, Eq)]
 pub enum Value {
     /// The number of the revision that was opened.
     Revision(u16),
@@ -85,71 +77,35 @@ pub enum Value {
     Awaited(Awaited),
 }
 
-// What a call answers that counts its acts.
-fn acts(answer: Result<u8, Refusal>) -> Result<Value, Refusal>
-    ensures same { reported result ≡ answer_of answer }
-    ensures suits { IfOk result CountsActs }
-{
-    Ok(Value::Acts(answer?))
-}
-
-// What a call answers that has nothing to count.
-fn nothing(answer: Result<(), Refusal>) -> Result<Value, Refusal>
-    ensures same { reported result ≡ plain_answer answer }
-    ensures suits { IfOk result (λ v. v ≡ Value.Nothing) }
-{
-    answer?;
-    Ok(Value::Nothing)
-}
-
 /// Makes a call of a run.
 pub fn perform<J: Journal, P: Presumption>(
     run: &mut Run<J, P>,
     call: Call,
 ) -> Result<Value, Refusal>
-    ensures reply { reply (reported result) (seen J.Journal.meaning run.new) ≡ called (P.Presumption.answers run.old.presumption) call (seen J.Journal.meaning run.old) }
-    ensures suits { IfOk result (Suits call (seen J.Journal.meaning run.old)) }
+    ensures reply { reply (reported result) run.new.state ≡ called (P.answers run.old.presumption) call run.old.state }
+    ensures suits { IfOk result (Suits call run.old.state) }
     ensures presumes { run.new.presumption ≡ run.old.presumption }
 {
     match call {
-        Call::Open { coordinator, set } => Ok(Value::Revision(run.open(coordinator, set)?)),
-        Call::Close {
-            revision,
-            fuse,
-            kept,
-        } => acts(run.close(revision, fuse, kept)),
-        Call::GiveUp {
-            revision,
-            fuse,
-            kept,
-        } => acts(run.give_up(revision, fuse, kept)),
-        Call::Chase {
-            revision,
-            fuse,
-            kept,
-        } => acts(run.chase(revision, fuse, kept)),
+        Call::Open { coordinator, set } => run.open(coordinator, set).map(Value::Revision),
+        Call::Close { revision, fuse } => run.close(revision, fuse).map(Value::Acts),
+        Call::GiveUp { revision, fuse } => run.give_up(revision, fuse).map(Value::Acts),
+        Call::Chase { revision, fuse } => run.chase(revision, fuse).map(Value::Acts),
         Call::Reject {
             revision,
             station,
             fuse,
-            kept,
-        } => acts(run.reject(revision, station, fuse, kept)),
+        } => run.reject(revision, station, fuse).map(Value::Acts),
         Call::Inquire {
             revision,
             station,
             fuse,
-            kept,
-        } => acts(run.inquire(revision, station, fuse, kept)),
-        Call::Deliver {
-            place,
-            copy,
-            fuse,
-            kept,
-        } => acts(run.deliver(place, copy, fuse, kept)),
-        Call::Lose { place } => nothing(run.lose(place)),
-        Call::Cut { station, kept } => nothing(run.cut(station, kept)),
-        Call::Restart { station } => nothing(run.restart(station)),
-        Call::Settle => Ok(Value::Deliveries(run.settle()?)),
-        Call::Awaited { revision } => Ok(Value::Awaited(run.awaited(revision)?)),
+        } => run.inquire(revision, station, fuse).map(Value::Acts),
+        Call::Deliver { place, copy, fuse } => run.deliver(place, copy, fuse).map(Value::Acts),
+        Call::Lose { place } => run.lose(place).map(|()| Value::Nothing),
+        Call::Cut { station, kept } => run.cut(station, kept).map(|()| Value::Nothing),
+        Call::Restart { station } => run.restart(station).map(|()| Value::Nothing),
+        Call::Settle => run.settle().map(Value::Deliveries),
+        Call::Awaited { revision } => run.awaited(revision).map(Value::Awaited),
     }
 }

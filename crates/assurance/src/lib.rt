@@ -4,9 +4,8 @@
 ghost use Rattle.std.specs.Prelude.{◌≡◌, true, IfOk};
 ghost use Rattle.assurance.specs.Marked.{AllAsMarked};
 ghost use Rattle.assurance.specs.Outcomes.{Sound, OneOutcome};
-ghost use Rattle.assurance.specs.Played.{AllPerformed};
-ghost use Rattle.run.specs.Runs.{seen};
-ghost use Rattle.run.specs.State.{fits, fresh};
+ghost use Rattle.assurance.specs.Played.{AllPerformed, new_run};
+ghost use Rattle.run.specs.State.{fits};
 
 pub mod calls;
 
@@ -19,7 +18,7 @@ use std::alloc::{AllocError, Global};
 
 /// A run that was played, and what each call answered.
 #[derive(Drop)]
-pub struct Played<J, P> {
+pub struct Played<J: Journal, P: Presumption> {
     pub run: Run<J, P>,
     pub answers: Vec<Result<Value, Refusal>>,
 }
@@ -30,8 +29,7 @@ fn perform_all<J: Journal, P: Presumption>(
     run: &mut Run<J, P>,
     calls: &[Call],
 ) -> Result<Vec<Result<Value, Refusal>>, AllocError>
-    ensures performed { IfOk result (λ xs. AllPerformed (P.Presumption.answers run.old.presumption) calls.now (seen J.Journal.meaning run.old) (seen J.Journal.meaning run.new) xs.items) }
-    ensures presumes { run.new.presumption ≡ run.old.presumption }
+    ensures { IfOk result (λ xs. AllPerformed P.answers calls.now run.old run.new xs.items) }
 {
     let mut answers = Vec::new(heap);
     for call in calls {
@@ -40,34 +38,21 @@ fn perform_all<J: Journal, P: Presumption>(
     Ok(answers)
 }
 
-// Makes a run over a journal and performs a list of calls on it.
-fn perform_on_new<J: Journal + Drop, P: Presumption + Drop>(
-    heap: Global,
-    journal: J,
-    presumption: P,
-    calls: &[Call],
-) -> Result<Played<J, P>, AllocError>
-    ensures performed { IfOk result (λ x. AllPerformed (P.Presumption.answers presumption) calls.now (fresh (J.Journal.meaning journal)) (seen J.Journal.meaning x.run) x.answers.items) }
-    ensures presumes { IfOk result (λ x. x.run.presumption ≡ presumption) }
-{
-    let mut run = Run::new(heap, journal, presumption)?;
-    let answers = perform_all(heap, &mut run, calls)?;
-    Ok(Played { run, answers })
-}
-
 /// Makes a run over a journal and performs a list of calls on it. If the journal fits, the run that is left is sound;
 /// the last two clauses say what holds of every run.
+#[tactic(auto, using(crate::proofs::Holds::one_outcome, crate::proofs::Marked::all_as_marked))]
 pub fn play<J: Journal + Drop, P: Presumption + Drop>(
     heap: Global,
     journal: J,
     presumption: P,
     calls: &[Call],
 ) -> Result<Played<J, P>, AllocError>
-    ensures performed { IfOk result (λ x. AllPerformed (P.Presumption.answers presumption) calls.now (fresh (J.Journal.meaning journal)) (seen J.Journal.meaning x.run) x.answers.items) }
-    ensures presumes { IfOk result (λ x. x.run.presumption ≡ presumption) }
-    ensures sound { IfOk result (λ x. fits (J.Journal.meaning journal) ≡ true → Sound (P.Presumption.answers presumption) (seen J.Journal.meaning x.run)) }
+    ensures performed { IfOk result (λ x. AllPerformed P.answers calls.now (new_run presumption (J.meaning journal)) x.run x.answers.items) }
+    ensures sound { IfOk result (λ x. fits (J.meaning journal) ≡ true → Sound (P.answers presumption) x.run.state) }
     ensures outcome { OneOutcome }
     ensures marked { AllAsMarked }
 {
-    perform_on_new(heap, journal, presumption, calls)
+    let mut run = Run::new(heap, journal, presumption)?;
+    let answers = perform_all(heap, &mut run, calls)?;
+    Ok(Played { run, answers })
 }

@@ -1,9 +1,6 @@
-use Rattle.std.proofs.Common.{◌≡◌, take, vec_items}
-use Rattle.run.specs.Runs.{seen}
+use Rattle.std.proofs.Common.{take, vec_items}
 use Rattle.assurance.specs.Played.{AllPerformed}
 use Rattle.assurance.proofs.perform_all.Given as goal
 
 abbrev pub invariant-loop-call : goal.invariant-loop-call
-invariant-loop-call g l =
-    AllPerformed (g.P.Presumption.answers l.initial.run.presumption) (take l.call-index l.calls) (seen g.J.Journal.meaning l.initial.run) (seen g.J.Journal.meaning l.run) (vec_items l.answers)
-    × (l.run.presumption ≡ l.initial.run.presumption)
+invariant-loop-call g l = AllPerformed g.P.Presumption.answers (take l.call-index l.calls) l.initial.run l.run (vec_items l.answers)
