@@ -1,7 +1,7 @@
 -- One revision opened, closed and settled takes at most four deliveries for each of its stations.
 use Rattle.std.proofs.Common.{◌≡◌, ℕ, zero, suc, ◌+◌, ◌*◌, ◌^◌, ◌<◌, ◌≤◌, true, false, cond, ◌&&◌, eqb, ltb, ◌⊎◌, List, [], ◌∷◌, ◌++◌, length, filter, sym, refl, ap, ◌∙◌, subst, inl, inr, arith, length-append}
 use Rattle.std.specs.List.{AllByRecursion, range_with_len}
-use Rattle.std.proofs.ByRecursion.{All-push, kept_by_passes}
+use Rattle.assurance.proofs.Each.{All-push, All-filter}
 use Rattle.std.proofs.lemmas.Bool.Decides.{nat_tests}
 use Rattle.std.proofs.lemmas.Bool.{cond_both, cond-true, cond-false, cases_Bool, true≢false, eqb-true, eq-eqb, and_parts, not-true, ltb-true}
 use Rattle.assurance.proofs.Ideal.{updated, in_set, with_station, members, kI, commit, CoordinatorEntry, none, Open, Collecting, Announcing, SubordinateEntry, idle, Active, Prepared, Station, MessageKind, PREPARE, YES, COMMIT, ABORT, ACK, Message, Plan, Run, Presumption, at_station, set_coordinator, set_subordinate, with_message, with_post, Act, write, force, send, act_done, acts_done, to_coordinator, to_subordinate, turn, step, line, letter, send_each, await, close_acts, commit_acts, prepare_acts, upon_prepare, upon_yes, upon_close, upon_inquire, handed, upon_open, open_revision, close, load, all_powered, hand_first, drain, emptied, nudge, urged, asked, inquire_all, revise, revise_all, settled, fits, call, calls}
@@ -10,7 +10,7 @@ use Rattle.assurance.proofs.Sets.{mem_add, mem_zero, add_self, add_keeps, mem_be
 use Rattle.assurance.proofs.Claims.{Laws, new, up}
 use Rattle.assurance.proofs.SafeActs.{SafeSt, upd_same}
 use Rattle.assurance.proofs.Invariant.{Inv, inv_first}
-use Rattle.assurance.proofs.Rules.{Rule, vote, decide, start, acts_of, turn_of, For, Did, by_did, did_handed, whole, few_members}
+use Rattle.assurance.proofs.Rules.{Rule, vote, decide, start, acts_of, turn_of, For, Did, by_did, did_handed, whole, few_members, counting_below}
 use Rattle.assurance.proofs.Loads.{empty, load_handed}
 use Rattle.assurance.proofs.Whole.{On, Aside, aside_refl, aside_trans, Sure, Rested, Calm, on_moved, aside_moved, co_moved, sure_moved, co_now, aside_did, on_first, first_on}
 use Rattle.assurance.proofs.UnderWay.{In, in_left, in_last, elem_members, letters, letters_sends, room_post, post_acts, post_turn, CoPend, MildOf, Mild, Tri, mid_first, rest_of, mild_sends, in_sends, told}
@@ -439,7 +439,7 @@ module _ (π : Presumption) (𝓛 : Laws π) (c all : ℕ) (ok : fits π.size c 
 
   passes : AllByRecursion (λ t. in_set all t ≡ true) (members π.size all)
   unfolding members
-  passes = kept_by_passes (in_set all) (range_with_len 0 π.size)
+  passes = All-filter (λ u. u < π.size) _ (in_set all) (λ _ _ e. e) (range_with_len 0 π.size) (counting_below 0 π.size π.size (omega arith))
 
   going : Going π 𝓛 0 c all w below (4 * card π.size all) w
   going =

@@ -1,7 +1,7 @@
 -- Stations stay in range, a commit record was marked first, marks last.
 use Rattle.std.proofs.Common.{◌≡◌, ℕ, ◌<◌, ◌≤◌, true, false, eqb, ltb, ◌⊎◌, List, [], ◌∷◌, ◌++◌, length, take, sym, refl, ◌∙◌, subst, inl, inr, arith}
 use Rattle.std.specs.List.{AllByRecursion}
-use Rattle.std.proofs.ByRecursion.{All-push}
+use Rattle.assurance.proofs.Each.{All-push}
 use Rattle.std.proofs.lemmas.Bool.Decides.{nat_tests}
 use Rattle.std.proofs.lemmas.Bool.{cond_both, cond-true, cases_Bool, true≢false, eqb-true, eq-eqb}
 use Rattle.assurance.proofs.Ideal.{updated, in_set, with_station, Kind, kc, Record, is, has, commit, Station, Message, Run, Presumption, at_station, written_station, forced_station, cut_station, set_coordinator, set_subordinate, Act, write, force, send, installed, dropped, act_done, acts_done, Turn, stay, to_coordinator, to_subordinate, turn, step, line, force_if, ack_if}

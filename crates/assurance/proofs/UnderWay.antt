@@ -1,7 +1,7 @@
 -- Whoever is awaited has the outcome, or its own ACK, under way.
 use Rattle.std.proofs.Common.{◌≡◌, ℕ, zero, suc, ◌+◌, ◌<◌, ◌≤◌, Bool, true, false, eqb, ltb, ◌⊎◌, List, [], ◌∷◌, ◌++◌, length, filter, sym, refl, ap, ◌∙◌, subst, inl, inr, arith, length-append}
 use Rattle.std.specs.List.{AllByRecursion, range_with_len}
-use Rattle.std.proofs.ByRecursion.{All-push}
+use Rattle.assurance.proofs.Each.{All-push}
 use Rattle.std.proofs.lemmas.Bool.Decides.{nat_tests}
 use Rattle.std.proofs.lemmas.Bool.{cond_both, cond-true, cases_eq, true≢false}
 use Rattle.assurance.proofs.Ideal.{in_set, without_station, members, kC, kE, Outcome, commit, abort, CoordinatorEntry, none, Open, Collecting, Announcing, SubordinateEntry, idle, Active, Prepared, MessageKind, COMMIT, ABORT, ACK, Message, Plan, Run, Presumption, at_station, set_coordinator, with_message, marked_installed, marked_dropped, with_post, Act, write, force, send, installed, dropped, act_done, acts_done, Turn, stay, to_coordinator, to_subordinate, turn, step, line, letter, send_each, outcome_mail, outcome_kind, mark, force_if, ack_if, enforce_acts, upon_outcome, upon_ack, handed, hand_first, emptied}
