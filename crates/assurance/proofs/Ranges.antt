@@ -28,11 +28,8 @@ NearA n (send m) = NearM n m
 NearA n a = Unit {0}
 
 near_act : (n s : ℕ) (a : Act) (st : Run) → NearA n a → Near n st → Near n (act_done s a st)
-near_act n s (write x) st k h = record { posts = h.posts; plans = h.plans; sets = h.sets; far = λ t l. grind (arith, nat_tests, h.far t) }
-near_act n s force st k h = record { posts = h.posts; plans = h.plans; sets = h.sets; far = λ t l. grind (arith, nat_tests, h.far t) }
 near_act n s (send m) st k h = record { posts = cond_both (ltb (length st.post) 64) (st.post ++ (m ∷ [])) st.post (AllByRecursion (NearM n)) (λ _. All-push _ st.post m h.posts k) (λ _. h.posts); plans = h.plans; sets = h.sets; far = h.far }
-near_act n s (installed r) st k h = record { posts = h.posts; plans = h.plans; sets = h.sets; far = h.far }
-near_act n s (dropped r) st k h = record { posts = h.posts; plans = h.plans; sets = h.sets; far = h.far }
+near_act n s a st k h = record { posts = h.posts; plans = h.plans; sets = h.sets; far = λ t l. grind (arith, nat_tests, h.far t) }
 
 pub near_in : (n s : ℕ) (g : Station → Station) (st : Run) → s < n → Near n st → Near n (at_station s g st)
 near_in n s g st l h = record { posts = h.posts; plans = h.plans; sets = h.sets; far = λ t k. grind (arith, nat_tests, h.far t) }
