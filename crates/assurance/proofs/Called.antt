@@ -28,7 +28,7 @@ use Rattle.station.specs.Acts.{letter}
 use Rattle.station.specs.Coordinator.{announcing, close_move, give_up_move, chase_move, unheard}
 use Rattle.assurance.proofs.Every.{Full}
 use Rattle.assurance.proofs.View.{co_as, station_as, view}
-use Rattle.std.proofs.ByRecursion.{All-get_or}
+use Rattle.assurance.proofs.Each.{All-get_or}
 use Rattle.std.proofs.lemmas.List.FromFn.{length-map-range_with_len, get_or-map-range_with_len}
 use Rattle.run.specs.Answers.{answered}
 use Rattle.run.specs.Calls.{reply, refuse, moved, if_allowed, coordinator_of, coordinator_call, coordinator_entry, close_call, give_up_call, chase_call, subordinate_call, reject_call, inquire_call, heard, handed, message_at, removed, deliver_call, lose_call, cut_call, restart_call, unheard_call, turning}

@@ -18,7 +18,7 @@ use Rattle.assurance.proofs.Lasting.{world}
 use Rattle.assurance.proofs.SafeRules.{has_legal}
 use Rattle.assurance.proofs.View.{co_as, station_as, view}
 use lib.ListN.{get_or-replicate, length-replicate}
-use Rattle.std.proofs.ByRecursion.{All-weaker}
+use Rattle.assurance.proofs.Each.{All-weaker}
 use Rattle.run.specs.Answers.{answered}
 use Rattle.run.specs.Calls.{reply, refuse, coordinator_of}
 use Rattle.assurance.specs.declared.calls.Call.{Call}

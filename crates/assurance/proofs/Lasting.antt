@@ -1,7 +1,7 @@
 -- Facts about one station that last, and the invariant that holds between acts: whatever is present has its lasting reason.
 use Rattle.std.proofs.Common.{◌≡◌, ℕ, zero, suc, ◌<◌, ◌≤◌, true, false, ◌||◌, eqb, ◌⊎◌, List, [], ◌∷◌, ◌++◌, take, sym, refl, subst, inl, inr, arith}
 use Rattle.std.specs.List.{AllByRecursion}
-use Rattle.std.proofs.ByRecursion.{All-weaker}
+use Rattle.assurance.proofs.Each.{All-weaker}
 use Rattle.std.proofs.lemmas.Bool.{or_parts, or_from, cond_both, eqb-true}
 use Rattle.assurance.proofs.Ideal.{updated, in_set, Kind, kI, kC, kA, kE, kp, kc, ka, Record, is, has, Outcome, commit, abort, CoordinatorEntry, none, Open, Collecting, Announcing, SubordinateEntry, idle, Active, Prepared, Station, MessageKind, PREPARE, YES, NO, COMMIT, ABORT, ACK, INQUIRY, Message, Plan, Run, Presumption}
 

@@ -1,3 +1,4 @@
+mod Each
 mod Ideal
 mod Claims
 mod Sets

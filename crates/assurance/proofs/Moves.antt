@@ -30,7 +30,7 @@ use Rattle.station.specs.Acts.{acts, letter, post_each, if_so, telling, mark, lo
 use Rattle.station.specs.Sets.{holds, empty, members, without_station}
 use Rattle.station.specs.declared.steps.Step.{Step}
 use Rattle.station.specs.declared.steps.Step.TheVariants as step
-use Rattle.std.proofs.ByRecursion.{All-append}
+use Rattle.assurance.proofs.Each.{All-append}
 use Rattle.assurance.specs.Writes.{Accepted}
 use Rattle.assurance.proofs.Claims.{Laws}
 use Rattle.assurance.proofs.Sets.{mem_zero}

@@ -1,16 +1,16 @@
 -- One revision opened, closed and settled takes at most four deliveries for each of its stations.
-use Rattle.std.proofs.Common.{◌≡◌, ℕ, zero, suc, ◌+◌, ◌*◌, ◌^◌, ◌<◌, ◌≤◌, true, false, cond, ◌&&◌, eqb, ltb, ◌⊎◌, List, [], ◌∷◌, ◌++◌, length, filter, sym, refl, ap, ◌∙◌, subst, inl, inr, arith, length-append}
+use Rattle.std.proofs.Common.{◌≡◌, ℕ, zero, suc, ◌+◌, ◌*◌, ◌^◌, ◌<◌, ◌≤◌, true, false, cond, ◌&&◌, eqb, ltb, ◌⊎◌, List, [], ◌∷◌, ◌++◌, length, filter, sym, refl, ap, ◌∙◌, subst, inl, inr, arith, length-append, Bool}
 use Rattle.std.specs.List.{AllByRecursion, range_with_len}
-use Rattle.std.proofs.ByRecursion.{All-push, kept_by_passes}
+use Rattle.assurance.proofs.Each.{All-push, All-filter, All-weaker, filter_none}
 use Rattle.std.proofs.lemmas.Bool.Decides.{nat_tests}
-use Rattle.std.proofs.lemmas.Bool.{cond_both, cond-true, cond-false, cases_Bool, true≢false, eqb-true, eq-eqb, and_parts, not-true, ltb-true}
+use Rattle.std.proofs.lemmas.Bool.{cond_both, cond-true, cases_Bool, true≢false, eqb-true, eq-eqb, and_parts, not-true, ltb-true}
 use Rattle.assurance.proofs.Ideal.{updated, in_set, with_station, members, kI, commit, CoordinatorEntry, none, Open, Collecting, Announcing, SubordinateEntry, idle, Active, Prepared, Station, MessageKind, PREPARE, YES, COMMIT, ABORT, ACK, Message, Plan, Run, Presumption, at_station, set_coordinator, set_subordinate, with_message, with_post, Act, write, force, send, act_done, acts_done, to_coordinator, to_subordinate, turn, step, line, letter, send_each, await, close_acts, commit_acts, prepare_acts, upon_prepare, upon_yes, upon_close, upon_inquire, handed, upon_open, open_revision, close, load, all_powered, hand_first, drain, emptied, nudge, urged, asked, inquire_all, revise, revise_all, settled, fits, call, calls}
 use Rattle.assurance.proofs.Lasting.{world, CoLegal}
 use Rattle.assurance.proofs.Sets.{mem_add, mem_zero, add_self, add_keeps, mem_below, mem_ext}
 use Rattle.assurance.proofs.Claims.{Laws, new, up}
 use Rattle.assurance.proofs.SafeActs.{SafeSt, upd_same}
 use Rattle.assurance.proofs.Invariant.{Inv, inv_first}
-use Rattle.assurance.proofs.Rules.{Rule, vote, decide, start, acts_of, turn_of, For, Did, by_did, did_handed, whole, few_members}
+use Rattle.assurance.proofs.Rules.{Rule, vote, decide, start, acts_of, turn_of, For, Did, by_did, did_handed, whole, few_members, counting_below}
 use Rattle.assurance.proofs.Loads.{empty, load_handed}
 use Rattle.assurance.proofs.Whole.{On, Aside, aside_refl, aside_trans, Sure, Rested, Calm, on_moved, aside_moved, co_moved, sure_moved, co_now, aside_did, on_first, first_on}
 use Rattle.assurance.proofs.UnderWay.{In, in_left, in_last, elem_members, letters, letters_sends, room_post, post_acts, post_turn, CoPend, MildOf, Mild, Tri, mid_first, rest_of, mild_sends, in_sends, told}
@@ -22,37 +22,25 @@ use Rattle.assurance.proofs.Local.{locals, moved, same_locals, step_keeps, anywh
 abbrev pub card : ℕ → ℕ → ℕ
 card n m = length (members n m)
 
-module _ (ys t : ℕ) where
-  same_kept : (a n : ℕ) → t < a → length (filter (in_set (with_station ys t)) (range_with_len a n)) ≤ length (filter (in_set ys) (range_with_len a n))
-  same_kept a zero h = omega arith
-  same_kept a (suc n) h =
-      let k = same_kept (a + 1) n (omega arith) in
-      cond_both (in_set (with_station ys t) a) (a ∷ filter (in_set (with_station ys t)) (range_with_len (a + 1) n)) (filter (in_set (with_station ys t)) (range_with_len (a + 1) n)) (λ (l : List ℕ). length l ≤ length (cond (in_set ys a) (a ∷ filter (in_set ys) (range_with_len (a + 1) n)) (filter (in_set ys) (range_with_len (a + 1) n))))
-      (λ e. elim (mem_add ys t a e) [ inl i ↦ rw (cond-true (in_set ys a) (a ∷ filter (in_set ys) (range_with_len (a + 1) n)) (filter (in_set ys) (range_with_len (a + 1) n)) i) (omega arith) | inr i ↦ absurd (omega arith) ])
-      (λ _. cond_both (in_set ys a) (a ∷ filter (in_set ys) (range_with_len (a + 1) n)) (filter (in_set ys) (range_with_len (a + 1) n)) (λ (l : List ℕ). length (filter (in_set (with_station ys t)) (range_with_len (a + 1) n)) ≤ length l) (λ _. omega arith) (λ _. omega arith))
+-- a test that one more number may pass
+more_kept : (p q : ℕ → Bool) (t : ℕ) → ((x : ℕ) → q x ≡ true → (p x ≡ true) ⊎ (t ≡ x)) → (l : List ℕ) → length (filter q l) ≤ length (filter p l) + length (filter (eqb t) l)
+more_kept p q t f [] = omega arith
+more_kept p q t f (x ∷ l) = let h = more_kept p q t f l in let g = f x in grind (arith, nat_tests)
 
-  one_kept : (a n : ℕ) → length (filter (in_set (with_station ys t)) (range_with_len a n)) ≤ suc (length (filter (in_set ys) (range_with_len a n)))
-  one_kept a zero = omega arith
-  one_kept a (suc n) =
-      let k = one_kept (a + 1) n in
-      cond_both (in_set (with_station ys t) a) (a ∷ filter (in_set (with_station ys t)) (range_with_len (a + 1) n)) (filter (in_set (with_station ys t)) (range_with_len (a + 1) n)) (λ (l : List ℕ). length l ≤ suc (length (cond (in_set ys a) (a ∷ filter (in_set ys) (range_with_len (a + 1) n)) (filter (in_set ys) (range_with_len (a + 1) n)))))
-      (λ e. elim (mem_add ys t a e) [
-        | inl i ↦ rw (cond-true (in_set ys a) (a ∷ filter (in_set ys) (range_with_len (a + 1) n)) (filter (in_set ys) (range_with_len (a + 1) n)) i) (omega arith)
-        | inr i ↦ (let z = same_kept (a + 1) n (omega arith) in cond_both (in_set ys a) (a ∷ filter (in_set ys) (range_with_len (a + 1) n)) (filter (in_set ys) (range_with_len (a + 1) n)) (λ (l : List ℕ). suc (length (filter (in_set (with_station ys t)) (range_with_len (a + 1) n))) ≤ suc (length l)) (λ _. omega arith) (λ _. omega arith))
-      ])
-      (λ _. cond_both (in_set ys a) (a ∷ filter (in_set ys) (range_with_len (a + 1) n)) (filter (in_set ys) (range_with_len (a + 1) n)) (λ (l : List ℕ). length (filter (in_set (with_station ys t)) (range_with_len (a + 1) n)) ≤ suc (length l)) (λ _. omega arith) (λ _. omega arith))
+one_kept : (t a n : ℕ) → length (filter (eqb t) (range_with_len a n)) ≤ cond (ltb t a) 0 1
+one_kept t a zero = grind (arith, nat_tests)
+one_kept t a (suc n) = let h = one_kept t (a + 1) n in grind (arith, nat_tests)
 
 card_add : (n ys t : ℕ) → card n (with_station ys t) ≤ suc (card n ys)
 unfolding members
-card_add n ys t = one_kept ys t 0 n
-
-none_kept : (a n : ℕ) → length (filter (in_set 0) (range_with_len a n)) ≡ 0
-none_kept a zero = refl
-none_kept a (suc n) = rw (cond-false (in_set 0 a) (a ∷ filter (in_set 0) (range_with_len (a + 1) n)) (filter (in_set 0) (range_with_len (a + 1) n)) (mem_zero a)) (none_kept (a + 1) n)
+card_add n ys t =
+    let a = more_kept (in_set ys) (in_set (with_station ys t)) t (mem_add ys t) (range_with_len 0 n) in
+    let b = one_kept t 0 n in
+    grind (arith, nat_tests)
 
 card_zero : (n : ℕ) → card n 0 ≡ 0
 unfolding members
-card_zero n = none_kept 0 n
+card_zero n = ap length (filter_none (in_set 0) (range_with_len 0 n) (All-weaker (λ u. u < n) _ (λ u _. mem_zero u) (range_with_len 0 n) (counting_below 0 n n (omega arith))))
 
 -- what is left to deliver while votes come in
 abbrev pub vweigh : MessageKind → ℕ
@@ -439,7 +427,7 @@ module _ (π : Presumption) (𝓛 : Laws π) (c all : ℕ) (ok : fits π.size c 
 
   passes : AllByRecursion (λ t. in_set all t ≡ true) (members π.size all)
   unfolding members
-  passes = kept_by_passes (in_set all) (range_with_len 0 π.size)
+  passes = All-filter (λ u. u < π.size) _ (in_set all) (λ _ _ e. e) (range_with_len 0 π.size) (counting_below 0 π.size π.size (omega arith))
 
   going : Going π 𝓛 0 c all w below (4 * card π.size all) w
   going =

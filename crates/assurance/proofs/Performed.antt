@@ -24,7 +24,7 @@ use Rattle.assurance.proofs.Ideal as ideal
 use Rattle.run.specs.State.{stepped}
 use Rattle.stations.specs.Stations.{no_entries, entries_for, turned, turn_station, blank, set_coordinator, set_subordinate, turn_entry}
 use Rattle.actor.specs.Store.{burns}
-use Rattle.std.proofs.ByRecursion.{All-take}
+use Rattle.assurance.proofs.Each.{All-take}
 use lib.ListN.{get_or-replicate, length-replicate}
 use Rattle.assurance.specs.Writes.{Accepts, Accepted}
 use Rattle.assurance.proofs.Room.{records, grows, grows_take}

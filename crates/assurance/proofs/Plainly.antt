@@ -1,7 +1,7 @@
 -- Settling is nothing but deliveries, give-ups, chases and inquiries.
 use Rattle.std.proofs.Common.{◌≡◌, ℕ, zero, suc, Bool, true, false, cond, ltb, List, [], ◌∷◌, ◌++◌, length, sym, refl, ap, ◌∙◌}
 use Rattle.std.specs.List.{AllByRecursion, range_with_len}
-use Rattle.std.proofs.ByRecursion.{All-append}
+use Rattle.assurance.proofs.Each.{All-append}
 use Rattle.presumption.specs.Answers.{Answers}
 use Rattle.run.specs.Answers.{answered}
 use Rattle.run.specs.Calls.{reply, refuse, coordinator_entry}

@@ -1,7 +1,7 @@
 -- Stations stay in range, a commit record was marked first, marks last.
 use Rattle.std.proofs.Common.{◌≡◌, ℕ, ◌<◌, ◌≤◌, true, false, eqb, ltb, ◌⊎◌, List, [], ◌∷◌, ◌++◌, length, take, sym, refl, ◌∙◌, subst, inl, inr, arith}
 use Rattle.std.specs.List.{AllByRecursion}
-use Rattle.std.proofs.ByRecursion.{All-push}
+use Rattle.assurance.proofs.Each.{All-push}
 use Rattle.std.proofs.lemmas.Bool.Decides.{nat_tests}
 use Rattle.std.proofs.lemmas.Bool.{cond_both, cond-true, cases_Bool, true≢false, eqb-true, eq-eqb}
 use Rattle.assurance.proofs.Ideal.{updated, in_set, with_station, Kind, kc, Record, is, has, commit, Station, Message, Run, Presumption, at_station, written_station, forced_station, cut_station, set_coordinator, set_subordinate, Act, write, force, send, installed, dropped, act_done, acts_done, Turn, stay, to_coordinator, to_subordinate, turn, step, line, force_if, ack_if}
@@ -28,11 +28,8 @@ NearA n (send m) = NearM n m
 NearA n a = Unit {0}
 
 near_act : (n s : ℕ) (a : Act) (st : Run) → NearA n a → Near n st → Near n (act_done s a st)
-near_act n s (write x) st k h = record { posts = h.posts; plans = h.plans; sets = h.sets; far = λ t l. grind (arith, nat_tests, h.far t) }
-near_act n s force st k h = record { posts = h.posts; plans = h.plans; sets = h.sets; far = λ t l. grind (arith, nat_tests, h.far t) }
 near_act n s (send m) st k h = record { posts = cond_both (ltb (length st.post) 64) (st.post ++ (m ∷ [])) st.post (AllByRecursion (NearM n)) (λ _. All-push _ st.post m h.posts k) (λ _. h.posts); plans = h.plans; sets = h.sets; far = h.far }
-near_act n s (installed r) st k h = record { posts = h.posts; plans = h.plans; sets = h.sets; far = h.far }
-near_act n s (dropped r) st k h = record { posts = h.posts; plans = h.plans; sets = h.sets; far = h.far }
+near_act n s a st k h = record { posts = h.posts; plans = h.plans; sets = h.sets; far = λ t l. grind (arith, nat_tests, h.far t) }
 
 pub near_in : (n s : ℕ) (g : Station → Station) (st : Run) → s < n → Near n st → Near n (at_station s g st)
 near_in n s g st l h = record { posts = h.posts; plans = h.plans; sets = h.sets; far = λ t k. grind (arith, nat_tests, h.far t) }

@@ -1,7 +1,7 @@
 -- A whole step of a rule finds room in a journal of 160 records.
 use Rattle.std.proofs.Common.{◌≡◌, ℕ, zero, suc, ◌+◌, ◌<◌, ◌≤◌, List, [], ◌∷◌, length, take, refl, arith, length-append}
 use Rattle.std.specs.List.{AllByRecursion}
-use Rattle.std.proofs.ByRecursion.{All-weaker, All-push, All-append}
+use Rattle.assurance.proofs.Each.{All-weaker, All-push, All-append}
 use Rattle.assurance.proofs.Ideal.{Record, Station, Run, Presumption, written_station, forced_station, Act, write, force, Turn, stay}
 use Rattle.assurance.proofs.Claims.{Laws}
 use Rattle.assurance.proofs.Rules.{Rule, acts_of, turn_of, Why, all_acts}

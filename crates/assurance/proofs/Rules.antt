@@ -4,7 +4,7 @@ use Rattle.std.specs.List.{AllByRecursion, range_with_len}
 use Rattle.std.proofs.lemmas.Bool.Decides.{nat_tests}
 use Rattle.std.proofs.lemmas.Bool.{cond_both, cond-false, le-ltb, eqb-true, and_parts}
 use Rattle.assurance.proofs.Ideal.{in_set, with_station, without_station, members, kI, kA, kE, Record, Outcome, commit, abort, CoordinatorEntry, none, Open, Collecting, Announcing, SubordinateEntry, idle, Active, Prepared, Station, MessageKind, PREPARE, YES, NO, COMMIT, ABORT, ACK, INQUIRY, Run, Presumption, Logging, not_at_all, at_station, set_coordinator, Act, write, force, send, acts_done, Turn, stay, to_coordinator, to_subordinate, turn, step, line, letter, send_each, outcome_mail, await, logged, close_acts, commit_acts, end_acts, abort_acts, force_if, ack_if, enforce_acts, reject_acts, prepare_acts, upon_prepare, upon_yes, decide_abort, upon_no, upon_outcome, upon_ack, upon_inquiry, upon_close, upon_give_up, upon_reject, upon_chase, upon_inquire, handed, nudge, Kind, kC, kp, kc, ka, outcome_kind, unforced, forced, installed, dropped}
-use Rattle.std.proofs.ByRecursion.{all_kept_by, All-weaker, All-append}
+use Rattle.assurance.proofs.Each.{All-filter, All-weaker, All-append}
 use Rattle.std.proofs.lemmas.List.Sums.{length-filter, count_by-le-length}
 use Rattle.std.proofs.lemmas.List.FromFn.{length-range_with_len}
 use Rattle.assurance.proofs.Claims.{Laws}
@@ -205,7 +205,7 @@ counting_below a (suc n) b h = (omega arith, counting_below (a + 1) n b (omega a
 
 pub members_below : (n m : ℕ) → AllByRecursion (λ u. u < n) (members n m)
 unfolding members
-members_below n m = all_kept_by (in_set m) (λ u. u < n) (range_with_len 0 n) (counting_below 0 n n (omega arith))
+members_below n m = All-filter (λ u. u < n) _ (in_set m) (λ u l _. l) (range_with_len 0 n) (counting_below 0 n n (omega arith))
 
 -- what holds of each act of a rule
 all_each : (P : Act → Type 0) (k : MessageKind) (r s : ℕ) (ts : List ℕ) → AllByRecursion (λ t. P (send (letter k r s t))) ts → AllByRecursion P (send_each k r s ts)

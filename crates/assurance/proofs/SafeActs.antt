@@ -1,7 +1,7 @@
 -- Each act alone keeps the invariant between acts, where its reason holds.
 use Rattle.std.proofs.Common.{◌≡◌, ℕ, ◌<◌, true, false, eqb, ltb, ◌⊎◌, List, [], ◌∷◌, ◌++◌, length, take, sym, refl, ◌∙◌, subst, inl, inr, arith}
 use Rattle.std.specs.List.{AllByRecursion}
-use Rattle.std.proofs.ByRecursion.{All-push, All-append, All-take}
+use Rattle.assurance.proofs.Each.{All-push, All-append, All-take}
 use Rattle.std.proofs.lemmas.Bool.Decides.{nat_tests}
 use Rattle.std.proofs.lemmas.Bool.{or_from, or_left, cond_both, cond-false, cases_Bool, eqb-true}
 use Rattle.assurance.proofs.Ideal.{updated, in_set, with_station, Kind, kC, kp, kc, ka, Record, is, has, CoordinatorEntry, SubordinateEntry, Active, Station, Message, Run, Presumption, at_station, written_station, forced_station, cut_station, set_coordinator, set_subordinate, with_message, marked_installed, marked_dropped}

@@ -1,6 +1,6 @@
 -- Opening a revision keeps the invariant between acts.
 use Rattle.std.proofs.Common.{◌≡◌, ℕ, eqb, sym, ap, ◌∙◌, arith}
-use Rattle.std.proofs.ByRecursion.{All-weaker}
+use Rattle.assurance.proofs.Each.{All-weaker}
 use Rattle.std.proofs.lemmas.Bool.{cond_both, cond-false, eqb-true, ne_eqb}
 use Rattle.assurance.proofs.Ideal.{updated, in_set, CoordinatorEntry, Open, SubordinateEntry, Active, Station, Plan, Run, Presumption, opened_station, upon_open}
 use Rattle.assurance.proofs.Lasting.{upd_keep, Past, Inactive, Idle, Shut, Keeps, World, world, Grow, CoLegal, SubLegal, known_grows, comm_grows, abort_grows, legal_grows, co_grows, sub_grows, recs_grow}

@@ -1,7 +1,7 @@
 -- What holds of one station between steps, and the steps that messages, giving up and rejecting lead to.
 use Rattle.std.proofs.Common.{◌≡◌, ℕ, ◌<◌, Bool, true, false, eqb, ◌⊎◌, List, [], ◌∷◌, ◌++◌, sym, refl, ap, ◌∙◌, subst, inl, inr, arith, Some}
 use Rattle.std.specs.List.{AllByRecursion}
-use Rattle.std.proofs.ByRecursion.{All-weaker, All-append}
+use Rattle.assurance.proofs.Each.{All-weaker, All-append}
 use Rattle.std.proofs.lemmas.Bool.{or_cases, or_left, or_right, cond_both, cond-true, cond-false, cases_Bool, true≢false, eqb-true, eq-eqb, ne_eqb, and_parts}
 use Rattle.assurance.proofs.Ideal.{in_set, without_station, members, Kind, kI, kC, kA, kE, kp, kc, ka, Record, is, has, argument_of, Outcome, commit, abort, CoordinatorEntry, none, Open, Collecting, Announcing, SubordinateEntry, idle, Active, Prepared, Station, PREPARE, YES, NO, COMMIT, ABORT, ACK, INQUIRY, Plan, Run, Presumption, at_station, written_station, forced_station, set_coordinator, set_subordinate, marked_installed, marked_dropped, Act, write, force, send, installed, dropped, act_done, stay, to_coordinator, to_subordinate, step, line, letter, send_each, outcome_mail, outcome_kind, await, logged, end_acts, abort_acts, force_if, ack_if, enforce_acts, reject_acts, prepare_acts, upon_prepare, decide_abort, upon_no, upon_outcome, upon_ack, upon_inquiry, upon_give_up, upon_reject}
 use Rattle.assurance.proofs.Lasting.{has_append, Got, No, Past, Inactive, Idle, Shut, Doom, Veto, Settled, World, world, Grow, head, Named, Comm, Abort, Heard, Asked, AllSettled, LegalOf, Legal, RecOf, RecLegal, CoLegal, SubLegal, known_grows, comm_grows, abort_grows, legal_grows, rec_grows}

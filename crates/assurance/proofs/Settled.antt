@@ -12,7 +12,8 @@ use Rattle.assurance.proofs.Rules.{drop, press, For, did_handed, did_nudge, did_
 use Rattle.assurance.proofs.Loads.{empty, keeps_emptied}
 use Rattle.assurance.proofs.Whole.{On, Aside, aside_trans, Sure, Rested, co_moved, co_now, on_did, aside_did, on_first, first_on}
 use Rattle.assurance.proofs.Ranges.{Marked}
-use Rattle.assurance.proofs.UnderWay.{Elem, elem_counting, elem_members, letters, letters_append, letters_sends, room_post, post_acts, post_turn, Pend, CoPend, Mild, Tri, Mid, mid_rested, mild_sends, in_sends, append-nil, told, out_post, own_sub}
+use Rattle.assurance.proofs.UnderWay.{Elem, elem_counting, elem_members, letters, letters_append, letters_sends, room_post, post_acts, post_turn, Pend, CoPend, Mild, Tri, Mid, mid_rested, mild_sends, in_sends, told, out_post, own_sub}
+use Rattle.std.proofs.lemmas.List.{append-nil}
 
 module _ (π : Presumption) (𝓛 : Laws π) where
   pub tri_of : (r c : ℕ) (v : Run) (p : List Message) (e : CoordinatorEntry) → v.post ≡ p → (v.station c).coordinators r ≡ e → AllByRecursion (Mild r c) p → length p ≤ π.size → CoPend r c e p → Tri π 𝓛 r c v
@@ -31,7 +32,7 @@ module _ (π : Presumption) (𝓛 : Laws π) where
       ∙ (ap (λ (p : List Message). p ++ letters (send_each ABORT r s (members π.size d) ++ end_acts π r all d)) (letters_log (π.logs all) (line kA r all))
       ∙ (letters_append (send_each ABORT r s (members π.size d)) (end_acts π r all d)
       ∙ (ap (λ (p : List Message). letters (send_each ABORT r s (members π.size d)) ++ p) (letters_end r all d)
-      ∙ sym (append-nil (letters (send_each ABORT r s (members π.size d)))))))
+      ∙ append-nil (letters (send_each ABORT r s (members π.size d))))))
 
   pub few_sends : (k : MessageKind) (r s m : ℕ) → length (letters (send_each k r s (members π.size m))) ≤ π.size
   few_sends k r s m = omega (arith, letters_sends k r s (members π.size m), few_members π.size m)

@@ -1,10 +1,9 @@
 -- Whoever is awaited has the outcome, or its own ACK, under way.
-use Rattle.std.proofs.Common.{◌≡◌, ℕ, zero, suc, ◌+◌, ◌<◌, ◌≤◌, Bool, true, false, eqb, ltb, ◌⊎◌, List, [], ◌∷◌, ◌++◌, length, filter, sym, refl, ap, ◌∙◌, subst, inl, inr, arith, length-append}
+use Rattle.std.proofs.Common.{◌≡◌, ℕ, zero, suc, ◌+◌, ◌<◌, ◌≤◌, Bool, true, false, eqb, ltb, ◌⊎◌, List, [], ◌∷◌, ◌++◌, length, filter, sym, refl, ap, ◌∙◌, subst, inl, inr, arith, length-append, append_assoc}
 use Rattle.std.specs.List.{AllByRecursion, range_with_len}
-use Rattle.std.proofs.ByRecursion.{All-push}
-use Rattle.std.proofs.lemmas.Bool.Decides.{nat_tests}
-use Rattle.std.proofs.lemmas.Bool.{cond_both, cond-true, cases_eq, true≢false}
-use Rattle.assurance.proofs.Ideal.{in_set, without_station, members, kC, kE, Outcome, commit, abort, CoordinatorEntry, none, Open, Collecting, Announcing, SubordinateEntry, idle, Active, Prepared, MessageKind, COMMIT, ABORT, ACK, Message, Plan, Run, Presumption, at_station, set_coordinator, with_message, marked_installed, marked_dropped, with_post, Act, write, force, send, installed, dropped, act_done, acts_done, Turn, stay, to_coordinator, to_subordinate, turn, step, line, letter, send_each, outcome_mail, outcome_kind, mark, force_if, ack_if, enforce_acts, upon_outcome, upon_ack, handed, hand_first, emptied}
+use Rattle.assurance.proofs.Each.{All-push}
+use Rattle.std.proofs.lemmas.Bool.{cond_both, cond-true, cases_eq, true≢false, lt-ltb}
+use Rattle.assurance.proofs.Ideal.{in_set, without_station, members, kC, kE, Outcome, commit, abort, CoordinatorEntry, none, Open, Collecting, Announcing, SubordinateEntry, idle, Active, Prepared, MessageKind, COMMIT, ABORT, ACK, Message, Plan, Run, Presumption, at_station, set_coordinator, with_message, with_post, Act, write, send, act_done, acts_done, Turn, stay, to_coordinator, to_subordinate, turn, step, line, letter, send_each, outcome_mail, outcome_kind, mark, force_if, ack_if, enforce_acts, upon_outcome, upon_ack, handed, hand_first, emptied}
 use Rattle.assurance.proofs.Lasting.{World, world, head, CoLegal, SubLegal}
 use Rattle.assurance.proofs.Sets.{del_self, del_back, mem_none}
 use Rattle.assurance.proofs.Claims.{Laws}
@@ -14,6 +13,7 @@ use Rattle.assurance.proofs.Invariant.{Inv, inv_first}
 use Rattle.assurance.proofs.Rules.{Rule, enforce, confirm, acts_of, turn_of, For, did_handed, whole}
 use Rattle.assurance.proofs.Loads.{empty, keeps_emptied}
 use Rattle.assurance.proofs.Whole.{On, Aside, aside_trans, Sure, Rested, Calm, NoCo, co_moved, sure_moved, idle_moved, co_now, aside_did, on_first, first_on}
+use Rattle.std.proofs.lemmas.List.{append-nil}
 
 -- a message waits
 abbrev pub In : Message → List Message → Type 0
@@ -53,29 +53,15 @@ letters [] = []
 letters (send m ∷ l) = m ∷ letters l
 letters (a ∷ l) = letters l
 
-pub append-nil : (l : List Message) → l ≡ l ++ []
-append-nil [] = refl
-append-nil (x ∷ l) = ap (λ (k : List Message). x ∷ k) (append-nil l)
-
-append_step : (l : List Message) (m : Message) (k : List Message) → (l ++ (m ∷ [])) ++ k ≡ l ++ (m ∷ k)
-append_step [] m k = refl
-append_step (x ∷ l) m k = ap (λ (j : List Message). x ∷ j) (append_step l m k)
-
-lt_yes : (a b : ℕ) → a < b → ltb a b ≡ true
-lt_yes a b h = grind (arith, nat_tests)
-
 pub room_post : (m : Message) (st : Run) → length st.post < 64 → (with_message m st).post ≡ st.post ++ (m ∷ [])
-room_post m st h = cond-true (ltb (length st.post) 64) (st.post ++ (m ∷ [])) st.post (lt_yes (length st.post) 64 h)
+room_post m st h = cond-true (ltb (length st.post) 64) (st.post ++ (m ∷ [])) st.post (lt-ltb (length st.post) 64 h)
 
 pub post_acts : (s : ℕ) (l : List Act) (st : Run) → length st.post + length (letters l) ≤ 64 → (acts_done s l st).post ≡ st.post ++ letters l
-post_acts s [] st h = append-nil st.post
-post_acts s (write x ∷ l) st h = post_acts s l (act_done s (write x) st) h
-post_acts s (force ∷ l) st h = post_acts s l (act_done s force st) h
+post_acts s [] st h = sym (append-nil st.post)
 post_acts s (send m ∷ l) st h =
     let e = room_post m st (omega arith) in
-    post_acts s l (with_message m st) (rw e (omega (arith, length-append st.post (m ∷ [])))) ∙ (ap (λ (p : List Message). p ++ letters l) e ∙ append_step st.post m (letters l))
-post_acts s (installed r ∷ l) st h = post_acts s l (marked_installed r s st) h
-post_acts s (dropped r ∷ l) st h = post_acts s l (marked_dropped r s st) h
+    post_acts s l (with_message m st) (rw e (omega (arith, length-append st.post (m ∷ [])))) ∙ (ap (λ (p : List Message). p ++ letters l) e ∙ append_assoc st.post (m ∷ []) (letters l))
+post_acts s (a ∷ l) st h = post_acts s l (act_done s a st) h
 
 pub post_turn : (s : ℕ) (tn : Turn) (st : Run) → (turn s tn st).post ≡ st.post
 post_turn s stay st = refl
