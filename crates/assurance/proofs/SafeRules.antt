@@ -3,7 +3,7 @@ use Rattle.std.proofs.Common.{◌≡◌, ℕ, ◌<◌, Bool, true, false, eqb, �
 use Rattle.std.specs.List.{AllByRecursion}
 use Rattle.assurance.proofs.Each.{All-weaker, All-append}
 use Rattle.std.proofs.lemmas.Bool.{or_cases, or_left, or_right, cond_both, cond-true, cond-false, cases_Bool, true≢false, eqb-true, eq-eqb, ne_eqb, and_parts}
-use Rattle.assurance.proofs.Ideal.{in_set, without_station, members, Kind, kI, kC, kA, kE, kp, kc, ka, Record, is, has, argument_of, Outcome, commit, abort, CoordinatorEntry, none, Open, Collecting, Announcing, SubordinateEntry, idle, Active, Prepared, Station, PREPARE, YES, NO, COMMIT, ABORT, ACK, INQUIRY, Plan, Run, Presumption, at_station, written_station, forced_station, set_coordinator, set_subordinate, marked_installed, marked_dropped, Act, write, force, send, installed, dropped, act_done, stay, to_coordinator, to_subordinate, step, line, letter, send_each, outcome_mail, outcome_kind, await, logged, end_acts, abort_acts, force_if, ack_if, enforce_acts, reject_acts, prepare_acts, upon_prepare, decide_abort, upon_no, upon_outcome, upon_ack, upon_inquiry, upon_give_up, upon_reject}
+use Rattle.assurance.proofs.Ideal.{in_set, without_station, members, Kind, kI, kC, kA, kE, kp, kc, ka, Record, is, has, argument_of, Outcome, commit, abort, CoordinatorEntry, none, Open, Collecting, Announcing, SubordinateEntry, idle, Active, Prepared, Station, PREPARE, YES, NO, ABORT, ACK, INQUIRY, Plan, Run, Presumption, at_station, written_station, forced_station, set_coordinator, set_subordinate, marked_installed, marked_dropped, Act, write, force, send, installed, dropped, act_done, stay, to_coordinator, to_subordinate, step, line, letter, send_each, outcome_mail, outcome_kind, await, logged, end_acts, abort_acts, force_if, ack_if, enforce_acts, reject_acts, prepare_acts, upon_prepare, decide_abort, upon_no, upon_outcome, upon_ack, upon_inquiry, upon_give_up, upon_reject}
 use Rattle.assurance.proofs.Lasting.{has_append, Got, No, Past, Inactive, Idle, Shut, Doom, Veto, Settled, World, world, Grow, head, Named, Comm, Abort, Heard, Asked, AllSettled, LegalOf, Legal, RecOf, RecLegal, CoLegal, SubLegal, known_grows, comm_grows, abort_grows, legal_grows, rec_grows, Decided, Reason, reason_of, reason_grows}
 use Rattle.assurance.proofs.Sets.{mem_del, mem_zero, del_back}
 use Rattle.assurance.proofs.Claims.{Laws}
@@ -172,25 +172,18 @@ module _ (π : Presumption) (𝓛 : Laws π) where
   safe_ack r s t x f k st h l e = h
 
   -- an outcome at a station with no entry: what it has there is stable
-  quiet : (o : Outcome) (r s : ℕ) (st : Run) → SafeSt π st → TidyS π st.plan s (st.station s) → (st.station s).power ≡ true → Idle ((st.station s).subordinates r) → π.acks o s ≡ true → ((Comm (world st) r × (o ≡ commit)) ⊎ (Abort (world st) r × (o ≡ abort))) ⊎ Settled r (st.station s) → Settled r (st.station s)
+  quiet : (o : Outcome) (r s : ℕ) (st : Run) → SafeSt π st → TidyS π st.plan s (st.station s) → (st.station s).power ≡ true → Idle ((st.station s).subordinates r) → π.acks o s ≡ true → Reason o (world st) r ⊎ Settled r (st.station s) → Settled r (st.station s)
   quiet o r s st h y on i a (inr k) = k
   quiet o r s st h y on i a (inl k) =
-      (i, elim (cases_Bool (has kp r (st.station s).stable)) [ inl p ↦ inr (held (y.knows on r i p)) | inr p ↦ inl (p, (y.calm r).1) ])
+      (i, elim (cases_Bool (has kp r (st.station s).stable)) [ inl p ↦ inr (held o (y.paid o r (𝓛.forcing o s a)) k (y.knows on r i p)) | inr p ↦ inl (p, (y.calm r).1) ])
     where
-      from : Has kc r (st.station s) → Comm (world st) r
-      from c = (there_legal π (world st) s kc r (h.recs s) c).2
-
-      fromA : Has ka r (st.station s) → Abort (world st) r
-      fromA c = (there_legal π (world st) s ka r (h.recs s) c).2
-
-      clear : (q : Outcome) → o ≡ q → has (outcome_kind q) r (st.station s).loose ≡ false
-      clear q e = y.paid q r (𝓛.forcing q s (subst (λ v. π.acks v s ≡ true) e a))
-
-      held : Has kc r (st.station s) ⊎ Has ka r (st.station s) → Got kc r (st.station s) ⊎ Got ka r (st.station s)
-      held (inl (inl c)) = inl c
-      held (inl (inr c)) = elim k [ inl j ↦ absurd (true≢false (sym c ∙ clear commit j.1)) | inr j ↦ absurd (excl π st h r (from (inr c)) j.0) ]
-      held (inr (inl c)) = inr c
-      held (inr (inr c)) = elim k [ inl j ↦ absurd (excl π st h r j.0 (fromA (inr c))) | inr j ↦ absurd (true≢false (sym c ∙ clear abort j.1)) ]
+      held : (o : Outcome) → has (outcome_kind o) r (st.station s).loose ≡ false → Reason o (world st) r → Has kc r (st.station s) ⊎ Has ka r (st.station s) → Got kc r (st.station s) ⊎ Got ka r (st.station s)
+      held o n k (inl (inl c)) = inl c
+      held o n k (inr (inl c)) = inr c
+      held commit n k (inl (inr c)) = absurd (true≢false (sym c ∙ n))
+      held commit n k (inr (inr c)) = absurd (excl π st h r k (there_legal π (world st) s ka r (h.recs s) (inr c)).2)
+      held abort n k (inl (inr c)) = absurd (excl π st h r (there_legal π (world st) s kc r (h.recs s) (inr c)).2 k)
+      held abort n k (inr (inr c)) = absurd (true≢false (sym c ∙ n))
 
   -- decide abort for d: whoever acknowledges and is not in d is settled
   module _ (r s all d : ℕ) (f k : ℕ) (st : Run) (h : SafeSt π st) (known : r < st.count) (own : s ≡ (st.plan r).coordinator) (whole : all ≡ (st.plan r).names) (no : No kC r (st.station s)) (rest : (t : ℕ) → Named (world st) r t → π.acks abort t ≡ true → (in_set d t ≡ true) ⊎ Settled r (st.station t)) (part : (t : ℕ) → in_set d t ≡ true → in_set all t ≡ true) where
@@ -273,24 +266,11 @@ module _ (π : Presumption) (𝓛 : Laws π) where
   ack_ok true r s t st h = (h refl, tt)
   ack_ok false r s t st h = tt
 
-  pub safe_commit : (r s t : ℕ) (e : SubordinateEntry) (f k : ℕ) (st : Run) → SafeSt π st → TidyS π st.plan s (st.station s) → (st.station s).power ≡ true → Legal π (world st) (letter COMMIT r t s) → (st.station s).subordinates r ≡ e → SafeSt π (upon_outcome π commit r s t e f k st)
-  safe_commit r s t idle f k st h y on l e =
-      safe_step π s (ack_if π (π.acks commit s) r s t) stay f k st h
-      (ack_ok (π.acks commit s) r s t st (λ a. (l.0, quiet π 𝓛 commit r s st h y on (rw e tt) a (elim l.1 [ inl c ↦ inl (inl (c, refl)) | inr c ↦ inr c ]))))
-      (λ h'. h')
-  safe_commit r s t (Active c) f k st h y on l e = h
-  safe_commit r s t (Prepared c) f k st h y on l e =
-      safe_enforce commit r s c f k st h l.0 (elim l.1 [ inl q ↦ q | inr q ↦ absurd (rw e at q.0) ])
-
-  pub safe_abort : (r s t : ℕ) (e : SubordinateEntry) (f k : ℕ) (st : Run) → SafeSt π st → TidyS π st.plan s (st.station s) → (st.station s).power ≡ true → Legal π (world st) (letter ABORT r t s) → (st.station s).subordinates r ≡ e → SafeSt π (upon_outcome π abort r s t e f k st)
-  safe_abort r s t idle f k st h y on l e =
-      safe_step π s (ack_if π (π.acks abort s) r s t) stay f k st h
-      (ack_ok (π.acks abort s) r s t st (λ a. (l.0, quiet π 𝓛 abort r s st h y on (rw e tt) a (elim l.1 [ inl c ↦ inl (inr (c, refl)) | inr c ↦ inr c ]))))
-      (λ h'. h')
-  safe_abort r s t (Active c) f k st h y on l e =
-      safe_enforce abort r s c f k st h l.0 (elim l.1 [ inl q ↦ q | inr q ↦ absurd (rw e at q.0) ])
-  safe_abort r s t (Prepared c) f k st h y on l e =
-      safe_enforce abort r s c f k st h l.0 (elim l.1 [ inl q ↦ q | inr q ↦ absurd (rw e at q.0) ])
+  pub safe_outcome : (o : Outcome) (r s t : ℕ) (e : SubordinateEntry) (f k : ℕ) (st : Run) → SafeSt π st → TidyS π st.plan s (st.station s) → (st.station s).power ≡ true → r < st.count → Reason o (world st) r ⊎ Settled r (st.station s) → (st.station s).subordinates r ≡ e → SafeSt π (upon_outcome π o r s t e f k st)
+  safe_outcome o r s t idle f k st h y on known l e = safe_step π s (ack_if π (π.acks o s) r s t) stay f k st h (ack_ok (π.acks o s) r s t st (λ a. (known, quiet π 𝓛 o r s st h y on (rw e tt) a l))) (λ h'. h')
+  safe_outcome commit r s t (Active c) f k st h y on known l e = h
+  safe_outcome abort r s t (Active c) f k st h y on known l e = safe_enforce abort r s c f k st h known (elim l [ inl q ↦ q | inr q ↦ absurd (rw e at q.0) ])
+  safe_outcome o r s t (Prepared c) f k st h y on known l e = safe_enforce o r s c f k st h known (elim l [ inl q ↦ q | inr q ↦ absurd (rw e at q.0) ])
 
   -- PREPARE: a station with no entry says NO, and is settled if it acknowledges aborts, unless the revision is committed
   pub safe_prepare : (r s t : ℕ) (e : SubordinateEntry) (f k : ℕ) (st : Run) → SafeSt π st → TidyS π st.plan s (st.station s) → (st.station s).power ≡ true → Legal π (world st) (letter PREPARE r t s) → (st.station s).subordinates r ≡ e → SafeSt π (upon_prepare π r s t e f k st)
@@ -305,7 +285,7 @@ module _ (π : Presumption) (𝓛 : Laws π) where
           elim (cases_Bool (has kp r (st.station s).stable)) [
             | inl p ↦ elim (y.knows on r i p) [
               | inl c ↦ inr (there_legal π (world st) s kc r (h.recs s) c).2
-              | inr c ↦ inl (λ a. quiet π 𝓛 abort r s st h y on i a (inl (inr ((there_legal π (world st) s ka r (h.recs s) c).2, refl))))
+              | inr c ↦ inl (λ a. quiet π 𝓛 abort r s st h y on i a (inl (there_legal π (world st) s ka r (h.recs s) c).2))
             ]
             | inr p ↦ inl (λ a. (i, inl (p, (y.calm r).1)))
           ]
