@@ -1,34 +1,22 @@
 -- A whole step under a fuse: what performing its acts one by one comes to.
-use Rattle.std.proofs.Common.{◌≡◌, ℕ, zero, suc, ◌+◌, ◌<◌, ◌≤◌, true, false, cond, List, [], ◌∷◌, length, take, Ok, Err, Result, sym, refl, ap, ◌∙◌, ⊎_elim, arith}
+use Rattle.std.proofs.Common.{◌≡◌, ℕ, zero, suc, ◌+◌, ◌<◌, ◌≤◌, true, false, cond, List, [], ◌∷◌, length, take, Ok, Err, Result, arith}
 use Rattle.actor.proofs.Performed.{dark_performed}
 use Rattle.actor.specs.Acting.{Acting, begun, burnt, after, performed}
 use Rattle.actor.specs.Store.{Store, done, all_done, journal_cut, answer_under_fuse, done_under_fuse}
 use Rattle.actor.specs.declared.fuse.Fuse.{Fuse}
 use Rattle.actor.specs.declared.fuse.PowerCut.{PowerCut}
 use Rattle.station.specs.Acts.{Act}
-use Rattle.std.proofs.lemmas.Bool.{cases_lt, lt-ltb, le-ltb, cond-true, cond-false}
+use Rattle.std.proofs.lemmas.Bool.Decides.{nat_tests}
 
 -- station s under the fuse f, with n acts done
 abbrev lit : ℕ → Fuse → ℕ → Store → Acting
 lit s f n w = record { store = w; station = s; fuse = f; done = n; dark = false }
 
--- the fuse allows one more act
-after_does : (a : Act) (s : ℕ) (f : Fuse) (n : ℕ) (w : Store) → n < f.acts → after a (lit s f n w) ≡ lit s f (n + 1) (done s a w)
-unfolding after burnt
-after_does a s f n w h = simp (lt-ltb n f.acts h)
-
--- the fuse is burnt
-after_fails : (a : Act) (s : ℕ) (f : Fuse) (n : ℕ) (w : Store) → f.acts ≤ n → after a (lit s f n w) ≡ record { store = journal_cut s f.kept w; station = s; fuse = f; done = n; dark = true }
-unfolding after burnt
-after_fails a s f n w h = simp (le-ltb n f.acts h)
-
 -- the fuse is long enough: all acts are done
 fuse_holds : (acts : List Act) (s : ℕ) (f : Fuse) (n : ℕ) (w : Store) → n + length acts ≤ f.acts → performed acts (lit s f n w) ≡ lit s f (n + length acts) (all_done s acts w)
-unfolding all_done
-fuse_holds [] s f n w h = ap (λ m. lit s f m w) (omega arith)
-fuse_holds (a ∷ acts) s f n w h =
-    rw (after_does a s f n w (omega arith))
-    (fuse_holds acts s f (n + 1) (done s a w) (omega arith) ∙ ap (λ m. lit s f m (all_done s acts (done s a w))) (omega arith))
+unfolding after burnt all_done
+fuse_holds [] s f n w h = grind arith
+fuse_holds (a ∷ acts) s f n w h = grind (arith, nat_tests, fuse_holds acts s f (n + 1) (done s a w))
 
 -- a station that went dark in a step
 abbrev cut_in : ℕ → Fuse → Store → Acting
@@ -36,13 +24,10 @@ cut_in s f w = record { store = journal_cut s f.kept w; station = s; fuse = f; d
 
 -- the fuse is below the number of acts: so many as it still allows are done, then the station is cut
 fuse_burns : (k : ℕ) (acts : List Act) (s : ℕ) (f : Fuse) (n : ℕ) (w : Store) → n + k ≡ f.acts → k < length acts → performed acts (lit s f n w) ≡ cut_in s f (all_done s (take k acts) w)
-unfolding all_done
+unfolding after burnt all_done
 fuse_burns k [] s f n w e h = absurd (omega arith)
-fuse_burns zero (a ∷ acts) s f n w e h =
-    rw (after_fails a s f n w (omega arith))
-    (dark_performed acts _ refl ∙ ap (λ m. record { store = journal_cut s f.kept w; station = s; fuse = f; done = m; dark = true }) (omega arith))
-fuse_burns (suc k) (a ∷ acts) s f n w e h =
-    rw (after_does a s f n w (omega arith)) (fuse_burns k acts s f (n + 1) (done s a w) (omega arith) (omega arith))
+fuse_burns zero (a ∷ acts) s f n w e h = grind (arith, nat_tests, dark_performed)
+fuse_burns (suc k) (a ∷ acts) s f n w e h = grind (arith, nat_tests, fuse_burns k acts s f (n + 1) (done s a w))
 
 -- what a station in a step answers: how many acts are done, or the power cut after so many
 abbrev pub answer_of : Acting → Result ℕ PowerCut
@@ -52,14 +37,14 @@ answer_of l = cond l.dark (Err (record { after = l.done })) (Ok l.done)
 pub store_under_fuse : (s : ℕ) (acts : List Act) (f : Fuse) (w : Store) → done_under_fuse s acts f.acts f.kept w ≡ (performed acts (begun s f w)).store
 unfolding done_under_fuse
 store_under_fuse s acts f w =
-    ⊎_elim (λ h. cond-true _ _ _ (lt-ltb f.acts (length acts) h) ∙ sym (ap (λ (x : Acting). x.store) (fuse_burns f.acts acts s f 0 w (omega arith) h)))
-    (λ h. cond-false _ _ _ (le-ltb f.acts (length acts) h) ∙ sym (ap (λ (x : Acting). x.store) (fuse_holds acts s f 0 w (omega arith))))
-    (cases_lt f.acts (length acts))
+    let burns = fuse_burns f.acts acts s f 0 w (omega arith) in
+    let holds = fuse_holds acts s f 0 w in
+    grind (arith, nat_tests, burns, holds)
 
 -- and the answer of the step is the answer of the station then
 pub answer_of_step : (s : ℕ) (w : Store) (f : Fuse) (acts : List Act) → answer_under_fuse f.acts acts ≡ answer_of (performed acts (begun s f w))
 unfolding answer_under_fuse
 answer_of_step s w f acts =
-    ⊎_elim (λ h. cond-true _ _ _ (lt-ltb f.acts (length acts) h) ∙ sym (ap answer_of (fuse_burns f.acts acts s f 0 w (omega arith) h)))
-    (λ h. cond-false _ _ _ (le-ltb f.acts (length acts) h) ∙ (ap (λ n. Ok n) (omega arith) ∙ sym (ap answer_of (fuse_holds acts s f 0 w (omega arith)))))
-    (cases_lt f.acts (length acts))
+    let burns = fuse_burns f.acts acts s f 0 w (omega arith) in
+    let holds = fuse_holds acts s f 0 w in
+    grind (arith, nat_tests, burns, holds)

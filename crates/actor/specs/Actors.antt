@@ -7,6 +7,10 @@ use Rattle.actor.specs.declared.actor.Actor.{Actor}
 use Rattle.actor.specs.declared.acts.Acting.{Acting}
 use Rattle.actor.specs.declared.fuse.PowerCut.{PowerCut}
 
+-- The journal that an actor holds.
+abbrev pub journal_of : {J : Type 0} → Actor J → J
+journal_of a = a.journal
+
 -- The journals, the post and the log that an actor holds.
 abbrev pub store_of : {J : Type 0} → (J → List Section) → Actor J → Store
 store_of meaning a = store (meaning a.journal) a.post a.log

@@ -3,8 +3,9 @@ ghost use Rattle.std.specs.Prelude.{◌≡◌, ◌≤◌, [], length, IfOk};
 ghost use Rattle.std.specs.List.{slice_get};
 ghost use Rattle.actor.specs.Log.{new_number};
 ghost use Rattle.actor.specs.Post.{most_waiting};
-ghost use Rattle.actor.specs.Store.{store, with_row, less, journal_cut, done_under_fuse, answer_under_fuse};
-ghost use Rattle.actor.specs.Actors.{store_of};
+ghost use Rattle.actor.specs.Store.{store, with_row, less, journal_cut};
+ghost use Rattle.actor.specs.Store.{done_under_fuse, answer_under_fuse};
+ghost use Rattle.actor.specs.Actors.{journal_of, store_of};
 ghost use Rattle.station.specs.Acts.{acts};
 ghost use Rattle.station.specs.Limits.{most_revisions};
 
@@ -21,6 +22,7 @@ use station::steps::Step;
 use std::alloc::{AllocError, Global};
 
 /// A run's journal, post and log.
+// No `Model`: `journal()` names the journal itself, and the view would be these same three fields.
 #[derive(Drop)]
 pub struct Actor<J> {
     pub(crate) journal: J,
@@ -33,8 +35,8 @@ impl<J: Journal> Actor<J> {
     pub fn new(heap: Global, journal: J) -> Result<Actor<J>, AllocError>
     where
         J: Drop,
-        ensures { IfOk result (λ x. store_of J.Journal.meaning x
-            ≡ store (J.Journal.meaning journal) [] []) }
+        ensures { IfOk result (λ x. store_of J.meaning x
+            ≡ store (J.meaning journal) [] []) }
     {
         let post = Post::new(heap)?;
         let log = Log::new(heap)?;
@@ -43,14 +45,14 @@ impl<J: Journal> Actor<J> {
 
     /// The journal.
     pub fn journal(&self) -> &J
-        ensures { result.now ≡ self.now.journal }
+        ensures { result.now ≡ journal_of self.now }
     {
         &self.journal
     }
 
     /// How many revisions were opened.
     pub fn opened(&self) -> usize
-        ensures count { result ≡ length (store_of J.Journal.meaning self.now).log }
+        ensures count { result ≡ length (store_of J.meaning self.now).log }
         ensures few { result ≤ most_revisions }
     {
         self.log.len()
@@ -58,16 +60,16 @@ impl<J: Journal> Actor<J> {
 
     /// The revision's row of the as-run log, if it was opened.
     pub fn row(&self, revision: u16) -> Option<Row>
-        ensures { result ≡ slice_get (store_of J.Journal.meaning self.now).log revision }
+        ensures { result ≡ slice_get (store_of J.meaning self.now).log revision }
     {
         self.log.row(revision)
     }
 
     /// One row more in the as-run log. Answers the revision's number, or none where all are opened.
     pub fn add_row(&mut self, coordinator: u8, set: StationSet) -> Option<u16>
-        ensures number { result ≡ new_number (store_of J.Journal.meaning self.old).log }
-        ensures store { store_of J.Journal.meaning self.new
-            ≡ with_row coordinator set (store_of J.Journal.meaning self.old) }
+        ensures number { result ≡ new_number (store_of J.meaning self.old).log }
+        ensures store { store_of J.meaning self.new
+            ≡ with_row coordinator set (store_of J.meaning self.old) }
     {
         let revision = self.opened();
         if revision >= usize::from(MAX_REVISIONS) {
@@ -80,7 +82,7 @@ impl<J: Journal> Actor<J> {
 
     /// How many messages wait.
     pub fn waiting(&self) -> usize
-        ensures count { result ≡ length (store_of J.Journal.meaning self.now).post }
+        ensures count { result ≡ length (store_of J.meaning self.now).post }
         ensures few { result ≤ most_waiting }
     {
         self.post.len()
@@ -88,15 +90,15 @@ impl<J: Journal> Actor<J> {
 
     /// The message that waits at a place.
     pub fn message(&self, place: usize) -> Option<Message>
-        ensures { result ≡ slice_get (store_of J.Journal.meaning self.now).post place }
+        ensures { result ≡ slice_get (store_of J.meaning self.now).post place }
     {
         self.post.message(place)
     }
 
     /// Removes the message at a place.
     pub fn remove(&mut self, place: usize)
-        ensures { store_of J.Journal.meaning self.new
-            ≡ less place (store_of J.Journal.meaning self.old) }
+        ensures { store_of J.meaning self.new
+            ≡ less place (store_of J.meaning self.old) }
     {
         self.post.remove(place);
     }
@@ -104,8 +106,8 @@ impl<J: Journal> Actor<J> {
     /// The power fails at a station, and so many of its unforced records are kept.
     #[tactic(auto, unfolding(crate::specs::Store::journal_cut))]
     pub fn cut(&mut self, station: u8, kept: u8)
-        ensures { store_of J.Journal.meaning self.new
-            ≡ journal_cut station kept (store_of J.Journal.meaning self.old) }
+        ensures { store_of J.meaning self.new
+            ≡ journal_cut station kept (store_of J.meaning self.old) }
     {
         let _ = self.journal.cut(station, usize::from(kept));
     }
@@ -121,13 +123,13 @@ impl<J: Journal> Actor<J> {
         step: Step,
         fuse: Fuse,
     ) -> Result<u8, PowerCut>
-        ensures store { store_of J.Journal.meaning self.new
+        ensures store { store_of J.meaning self.new
             ≡ done_under_fuse station
-            (acts (P.Presumption.answers presumption.now) station revision step)
-            fuse.acts fuse.kept (store_of J.Journal.meaning self.old) }
+            (acts (P.answers presumption.now) station revision step)
+            fuse.acts fuse.kept (store_of J.meaning self.old) }
         ensures answer { result
             ≡ answer_under_fuse fuse.acts
-            (acts (P.Presumption.answers presumption.now) station revision step) }
+            (acts (P.answers presumption.now) station revision step) }
     {
         let mut acting = Acting::new(self, presumption, station, revision, fuse);
         acting.perform(step)?;

@@ -2,7 +2,7 @@
 ghost use Rattle.std.specs.Prelude.{◌≡◌, false, IfOk};
 ghost use Rattle.actor.specs.Acting.{guarded, begun, burnt, after, performed};
 ghost use Rattle.actor.specs.Actors.{store_of, acting, Changes};
-ghost use Rattle.station.specs.Acts as acts;
+ghost use Rattle.station.specs.Acts.{write, force, post, mark, line, letter, post_each, telling};
 
 use crate::actor::Actor;
 use crate::fuse::{Fuse, PowerCut};
@@ -48,8 +48,8 @@ impl<'a, J: Journal, P> Acting<'a, J, P> {
         revision: u16,
         fuse: Fuse,
     ) -> Acting<'a, J, P>
-        ensures state { acting J.Journal.meaning false result
-            ≡ begun station fuse (store_of J.Journal.meaning actor.old) }
+        ensures state { acting J.meaning false result
+            ≡ begun station fuse (store_of J.meaning actor.old) }
         ensures revision { result.revision ≡ revision }
         ensures presumption { result.presumption.now ≡ presumption.now }
         ensures actor { result.actor.ghost_name ≡ actor.entry.ghost_name }
@@ -73,7 +73,7 @@ impl<'a, J: Journal, P> Acting<'a, J, P> {
 
     /// A record for the revision.
     pub(crate) fn line(&self, kind: Kind, argument: u8) -> Record
-        ensures { result ≡ acts.line kind self.now.revision argument }
+        ensures { result ≡ line kind self.now.revision argument }
     {
         Record {
             kind,
@@ -85,7 +85,7 @@ impl<'a, J: Journal, P> Acting<'a, J, P> {
     // An act begins, or the power fails where the fuse is burnt.
     #[tactic(auto, unfolding(crate::specs::Acting::burnt))]
     fn burn(&mut self) -> Result<(), PowerCut>
-        ensures { Changes J.Journal.meaning burnt self.old result self.new }
+        ensures { Changes J.meaning burnt self.old result self.new }
     {
         if self.done >= self.fuse.acts {
             self.actor.cut(self.station, self.fuse.kept);
@@ -97,7 +97,7 @@ impl<'a, J: Journal, P> Acting<'a, J, P> {
 
     /// Writes a record that need not be forced.
     pub(crate) fn write(&mut self, line: Record) -> Result<(), PowerCut>
-        ensures { Changes J.Journal.meaning (after (acts.write line)) self.old result self.new }
+        ensures { Changes J.meaning (after (write line)) self.old result self.new }
     {
         self.burn()?;
         let _ = self.actor.journal.write(self.station, line);
@@ -106,9 +106,7 @@ impl<'a, J: Journal, P> Acting<'a, J, P> {
 
     /// Writes a record that must be forced, and leaves the debt.
     pub(crate) fn write_due(&mut self, line: Record) -> Result<Debt, PowerCut>
-        ensures acts { Changes J.Journal.meaning
-            (after (acts.write line))
-            self.old result self.new }
+        ensures acts { Changes J.meaning (after (write line)) self.old result self.new }
         ensures owes { IfOk result (λ d. (d.station ≡ self.old.station) × (d.owed ≡ line)) }
     {
         self.write(line)?;
@@ -121,7 +119,7 @@ impl<'a, J: Journal, P> Acting<'a, J, P> {
     /// Forces, which spends the debt; the receipt names the record and its station.
     pub(crate) fn force(&mut self, debt: Debt) -> Result<Receipt, PowerCut>
         requires { debt.station ≡ self.old.station }
-        ensures acts { Changes J.Journal.meaning (after acts.force) self.old result self.new }
+        ensures acts { Changes J.meaning (after force) self.old result self.new }
         ensures names { IfOk result (λ p. (p.station ≡ debt.station) × (p.paid ≡ debt.owed)) }
     {
         let Debt { station, owed } = debt;
@@ -135,8 +133,8 @@ impl<'a, J: Journal, P> Acting<'a, J, P> {
 
     /// Marks the revision installed or dropped.
     pub(crate) fn mark(&mut self, outcome: Outcome) -> Result<(), PowerCut>
-        ensures { Changes J.Journal.meaning
-            (after (acts.mark outcome self.old.revision))
+        ensures { Changes J.meaning
+            (after (mark outcome self.old.revision))
             self.old result self.new }
     {
         self.burn()?;
@@ -146,8 +144,8 @@ impl<'a, J: Journal, P> Acting<'a, J, P> {
 
     // Posts one message about the revision.
     fn put(&mut self, kind: MessageKind, receiver: u8) -> Result<(), PowerCut>
-        ensures { Changes J.Journal.meaning
-            (after (acts.post (acts.letter kind self.old.revision self.old.station receiver)))
+        ensures { Changes J.meaning
+            (after (post (letter kind self.old.revision self.old.station receiver)))
             self.old result self.new }
     {
         self.burn()?;
@@ -165,8 +163,8 @@ impl<J: Journal, P> Acting<'_, J, P> {
     // Posts to each station of a set, ascending: an act for each.
     #[tactic(auto, using(crate::proofs::Performed::dark_performed))]
     fn put_each(&mut self, kind: MessageKind, set: StationSet) -> Result<(), PowerCut>
-        ensures { Changes J.Journal.meaning
-            (performed (acts.post_each kind self.old.revision self.old.station set))
+        ensures { Changes J.meaning
+            (performed (post_each kind self.old.revision self.old.station set))
             self.old result self.new }
     {
         for receiver in set {
@@ -178,8 +176,8 @@ impl<J: Journal, P> Acting<'_, J, P> {
     /// Posts a message that needs no receipt.
     pub(crate) fn post(&mut self, kind: MessageKind, receiver: u8) -> Result<(), PowerCut>
         requires { guarded kind ≡ false }
-        ensures { Changes J.Journal.meaning
-            (after (acts.post (acts.letter kind self.old.revision self.old.station receiver)))
+        ensures { Changes J.meaning
+            (after (post (letter kind self.old.revision self.old.station receiver)))
             self.old result self.new }
     {
         self.put(kind, receiver)
@@ -188,8 +186,8 @@ impl<J: Journal, P> Acting<'_, J, P> {
     /// Posts a message that needs no receipt to each station of a set.
     pub(crate) fn post_each(&mut self, kind: MessageKind, set: StationSet) -> Result<(), PowerCut>
         requires { guarded kind ≡ false }
-        ensures { Changes J.Journal.meaning
-            (performed (acts.post_each kind self.old.revision self.old.station set))
+        ensures { Changes J.meaning
+            (performed (post_each kind self.old.revision self.old.station set))
             self.old result self.new }
     {
         self.put_each(kind, set)
@@ -200,9 +198,8 @@ impl<J: Journal, P> Acting<'_, J, P> {
         requires here { _receipt.station ≡ self.old.station }
         requires prepared { _receipt.paid.kind ≡ Kind.Prepared }
         requires about { _receipt.paid.revision ≡ self.old.revision }
-        ensures { Changes J.Journal.meaning
-            (after (acts.post
-            (acts.letter MessageKind.Yes self.old.revision self.old.station receiver)))
+        ensures { Changes J.meaning
+            (after (post (letter MessageKind.Yes self.old.revision self.old.station receiver)))
             self.old result self.new }
     {
         self.put(MessageKind::Yes, receiver)
@@ -210,9 +207,8 @@ impl<J: Journal, P> Acting<'_, J, P> {
 
     /// Posts YES once more, where the vote was given already.
     pub(crate) fn repeat_yes(&mut self, _vote: GivenVote, receiver: u8) -> Result<(), PowerCut>
-        ensures { Changes J.Journal.meaning
-            (after (acts.post
-            (acts.letter MessageKind.Yes self.old.revision self.old.station receiver)))
+        ensures { Changes J.meaning
+            (after (post (letter MessageKind.Yes self.old.revision self.old.station receiver)))
             self.old result self.new }
     {
         self.put(MessageKind::Yes, receiver)
@@ -227,8 +223,8 @@ impl<J: Journal, P> Acting<'_, J, P> {
         requires here { _receipt.station ≡ self.old.station }
         requires commit { _receipt.paid.kind ≡ Kind.Commit }
         requires about { _receipt.paid.revision ≡ self.old.revision }
-        ensures { Changes J.Journal.meaning
-            (performed (acts.post_each MessageKind.Commit self.old.revision self.old.station set))
+        ensures { Changes J.meaning
+            (performed (post_each MessageKind.Commit self.old.revision self.old.station set))
             self.old result self.new }
     {
         self.put_each(MessageKind::Commit, set)
@@ -236,9 +232,9 @@ impl<J: Journal, P> Acting<'_, J, P> {
 
     /// Tells one station an outcome that is known already.
     pub(crate) fn tell(&mut self, known: KnownOutcome, receiver: u8) -> Result<(), PowerCut>
-        ensures { Changes J.Journal.meaning
-            (after (acts.post
-            (acts.letter (acts.telling known.outcome) self.old.revision self.old.station receiver)))
+        ensures { Changes J.meaning
+            (after (post
+            (letter (telling known.outcome) self.old.revision self.old.station receiver)))
             self.old result self.new }
     {
         self.put(MessageKind::from(known.outcome()), receiver)
@@ -246,9 +242,8 @@ impl<J: Journal, P> Acting<'_, J, P> {
 
     /// Tells each station of a set an outcome that is known already.
     pub(crate) fn tell_each(&mut self, known: KnownOutcome, set: StationSet) -> Result<(), PowerCut>
-        ensures { Changes J.Journal.meaning
-            (performed (acts.post_each
-            (acts.telling known.outcome) self.old.revision self.old.station set))
+        ensures { Changes J.meaning
+            (performed (post_each (telling known.outcome) self.old.revision self.old.station set))
             self.old result self.new }
     {
         self.put_each(MessageKind::from(known.outcome()), set)

@@ -2,7 +2,8 @@
 ghost use Rattle.std.specs.Prelude.{◌≡◌, [], ◌∷◌};
 ghost use Rattle.actor.specs.Acting.{after, performed};
 ghost use Rattle.actor.specs.Actors.{Changes};
-ghost use Rattle.station.specs.Acts as acts;
+ghost use Rattle.station.specs.Acts.{write, force, mark, line, if_so, outcome_kind, logged};
+ghost use Rattle.station.specs.Acts.{open_vote, prepare, commit, abort, acknowledge, enforce, acts};
 
 use crate::acts::Acting;
 use crate::fuse::PowerCut;
@@ -18,9 +19,7 @@ use station::steps::Step;
 impl<J: Journal, P: Presumption> Acting<'_, J, P> {
     // Writes a record and forces it. `prepare` and `decide_commit` do so openly, for the receipt.
     fn write_forced(&mut self, line: Record) -> Result<(), PowerCut>
-        ensures { Changes J.Journal.meaning
-            (performed (acts.write line ∷ acts.force ∷ []))
-            self.old result self.new }
+        ensures { Changes J.meaning (performed (write line ∷ force ∷ [])) self.old result self.new }
     {
         let debt = self.write_due(line)?;
         let _receipt = self.force(debt)?;
@@ -29,8 +28,8 @@ impl<J: Journal, P: Presumption> Acting<'_, J, P> {
 
     // Opens the vote.
     fn open_vote(&mut self, set: StationSet) -> Result<(), PowerCut>
-        ensures { Changes J.Journal.meaning
-            (performed (acts.open_vote (P.Presumption.answers self.old.presumption.now)
+        ensures { Changes J.meaning
+            (performed (open_vote (P.answers self.old.presumption.now)
             self.old.station self.old.revision set))
             self.old result self.new }
     {
@@ -43,8 +42,8 @@ impl<J: Journal, P: Presumption> Acting<'_, J, P> {
 
     // Writes p, forces it and votes YES.
     fn prepare(&mut self, coordinator: u8, sender: u8) -> Result<(), PowerCut>
-        ensures { Changes J.Journal.meaning
-            (performed (acts.prepare self.old.station self.old.revision coordinator sender))
+        ensures { Changes J.meaning
+            (performed (prepare self.old.station self.old.revision coordinator sender))
             self.old result self.new }
     {
         let line = self.line(Kind::Prepared, coordinator);
@@ -55,8 +54,8 @@ impl<J: Journal, P: Presumption> Acting<'_, J, P> {
 
     // Writes C, forces it and tells the set.
     fn decide_commit(&mut self, set: StationSet) -> Result<(), PowerCut>
-        ensures { Changes J.Journal.meaning
-            (performed (acts.commit self.old.station self.old.revision set))
+        ensures { Changes J.meaning
+            (performed (commit self.old.station self.old.revision set))
             self.old result self.new }
     {
         let line = self.line(Kind::Commit, u8::from(set));
@@ -66,13 +65,11 @@ impl<J: Journal, P: Presumption> Acting<'_, J, P> {
     }
 
     // Logs an abort as the presumption says.
-    fn log_abort(&mut self, set: StationSet) -> Result<(), PowerCut>
-        ensures { Changes J.Journal.meaning
-            (performed (acts.logged (P.Presumption.answers self.old.presumption.now).abort_logging
-            (acts.line Kind.Abort self.old.revision set.bits)))
+    fn log_abort(&mut self, line: Record) -> Result<(), PowerCut>
+        ensures { Changes J.meaning
+            (performed (logged (P.answers self.old.presumption.now).abort_logging line))
             self.old result self.new }
     {
-        let line = self.line(Kind::Abort, u8::from(set));
         match self.presumption.abort_logging() {
             Logging::NotAtAll => Ok(()),
             Logging::Unforced => self.write(line),
@@ -82,12 +79,13 @@ impl<J: Journal, P: Presumption> Acting<'_, J, P> {
 
     // Logs the abort, tells some, and ends at once where nobody is awaited.
     fn decide_abort(&mut self, set: StationSet, told: StationSet) -> Result<(), PowerCut>
-        ensures { Changes J.Journal.meaning
-            (performed (acts.abort (P.Presumption.answers self.old.presumption.now)
+        ensures { Changes J.meaning
+            (performed (abort (P.answers self.old.presumption.now)
             self.old.station self.old.revision set told))
             self.old result self.new }
     {
-        self.log_abort(set)?;
+        let line = self.line(Kind::Abort, u8::from(set));
+        self.log_abort(line)?;
         self.post_each(MessageKind::Abort, told)?;
         if self.presumption.acknowledges(Outcome::Abort) && told.is_empty() {
             self.end()?;
@@ -97,8 +95,8 @@ impl<J: Journal, P: Presumption> Acting<'_, J, P> {
 
     // Writes E.
     fn end(&mut self) -> Result<(), PowerCut>
-        ensures { Changes J.Journal.meaning
-            (after (acts.write (acts.line Kind.End self.old.revision 0)))
+        ensures { Changes J.meaning
+            (after (write (line Kind.End self.old.revision 0)))
             self.old result self.new }
     {
         let line = self.line(Kind::End, 0);
@@ -107,10 +105,10 @@ impl<J: Journal, P: Presumption> Acting<'_, J, P> {
 
     // Marks the outcome, then writes its record and forces it if it is forced.
     fn record_outcome(&mut self, outcome: Outcome, coordinator: u8) -> Result<(), PowerCut>
-        ensures { Changes J.Journal.meaning
-            (performed (acts.mark outcome self.old.revision
-            ∷ acts.write (acts.line (acts.outcome_kind outcome) self.old.revision coordinator)
-            ∷ acts.if_so ((P.Presumption.answers self.old.presumption.now).forces outcome) (acts.force ∷ [])))
+        ensures { Changes J.meaning
+            (performed (mark outcome self.old.revision
+            ∷ write (line (outcome_kind outcome) self.old.revision coordinator)
+            ∷ if_so ((P.answers self.old.presumption.now).forces outcome) (force ∷ [])))
             self.old result self.new }
     {
         self.mark(outcome)?;
@@ -124,8 +122,8 @@ impl<J: Journal, P: Presumption> Acting<'_, J, P> {
 
     // Acknowledges the outcome, if it is acknowledged.
     fn acknowledge(&mut self, outcome: Outcome, receiver: u8) -> Result<(), PowerCut>
-        ensures { Changes J.Journal.meaning
-            (performed (acts.acknowledge (P.Presumption.answers self.old.presumption.now)
+        ensures { Changes J.meaning
+            (performed (acknowledge (P.answers self.old.presumption.now)
             self.old.station self.old.revision outcome receiver))
             self.old result self.new }
     {
@@ -137,8 +135,8 @@ impl<J: Journal, P: Presumption> Acting<'_, J, P> {
 
     // Carries the outcome out: the mark comes before its record.
     fn enforce(&mut self, outcome: Outcome, coordinator: u8) -> Result<(), PowerCut>
-        ensures { Changes J.Journal.meaning
-            (performed (acts.enforce (P.Presumption.answers self.old.presumption.now)
+        ensures { Changes J.meaning
+            (performed (enforce (P.answers self.old.presumption.now)
             self.old.station self.old.revision outcome coordinator))
             self.old result self.new }
     {
@@ -148,8 +146,8 @@ impl<J: Journal, P: Presumption> Acting<'_, J, P> {
 
     /// Performs the acts of a step.
     pub(crate) fn perform(&mut self, step: Step) -> Result<(), PowerCut>
-        ensures { Changes J.Journal.meaning
-            (performed (acts.acts (P.Presumption.answers self.old.presumption.now)
+        ensures { Changes J.meaning
+            (performed (acts (P.answers self.old.presumption.now)
             self.old.station self.old.revision step))
             self.old result self.new }
     {
@@ -180,7 +178,7 @@ impl<J: Journal, P: Presumption> Acting<'_, J, P> {
 
 // The subordinate's record of an outcome. No `From`, since neither type is this crate's.
 fn outcome_record(outcome: Outcome) -> Kind
-    ensures { result ≡ acts.outcome_kind outcome }
+    ensures { result ≡ outcome_kind outcome }
 {
     match outcome {
         Outcome::Commit => Kind::Committed,

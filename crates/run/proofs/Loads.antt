@@ -1,24 +1,21 @@
--- Each delivery lowers the load of the post, in every state, so that a drained post is empty.
-use Rattle.std.proofs.Common.{◌≡◌, ℕ, zero, suc, ◌+◌, ◌*◌, ◌<◌, ◌≤◌, Bool, true, false, ◌&&◌, ltb, List, [], ◌∷◌, ◌++◌, map, length, get_or, take, refl, ◌∙◌, arith}
+-- Each delivery lowers the load of the post, in every state of a fit run.
+use Rattle.std.proofs.Common.{◌≡◌, ℕ, zero, suc, ◌+◌, ◌*◌, ◌<◌, ◌≤◌, Bool, true, false, List, [], ◌∷◌, ◌++◌, map, length, get_or, take, ◌∙◌, arith}
 use Rattle.actor.specs.Post.{posted, without}
 use Rattle.actor.specs.Store.{Store, done, all_done, journal_cut}
 use Rattle.presumption.specs.Answers.{Answers}
 use Rattle.presumption.specs.declared.outcome.Logging.{Logging}
 use Rattle.presumption.specs.declared.outcome.Outcome.{Outcome}
-use Rattle.presumption.specs.declared.outcome.Outcome.TheVariants as outcome
-use Rattle.journal.specs.declared.records.Kind.TheVariants as kind
 use Rattle.journal.specs.declared.records.Record.{Record}
-use Rattle.run.specs.Calls.{Reply, asked, moved, if_allowed, turning, heard, handed, message_at, removed, deliver_call}
+use Rattle.run.specs.Calls.{Reply, asked, if_allowed, turning, heard, handed, message_at, removed, deliver_call}
 use Rattle.run.specs.Settling.{weight, load, urged, inquired}
 use Rattle.run.specs.State.{State, stepped}
 use Rattle.stations.specs.declared.Station.{Station}
 use Rattle.stations.specs.declared.Turn.{Turn}
 use Rattle.stations.specs.declared.Turn.TheVariants as turn
 use Rattle.std.specs.Option.{option_map}
-use Rattle.station.specs.Acts.{Act, write, force, post, mark_installed, mark_dropped, acts, letter, line, post_each, if_so, telling, logged, mark, acknowledge}
+use Rattle.station.specs.Acts.{Act, write, force, post, mark_installed, mark_dropped, acts, letter, post_each, if_so, telling, logged, mark}
 use Rattle.station.specs.Coordinator.{coordinator_move, give_up_move, chase_move}
-use Rattle.station.specs.Moves.{Move}
-use Rattle.station.specs.Sets.{empty, holds, members}
+use Rattle.station.specs.Sets.{holds, members}
 use Rattle.station.specs.Subordinate.{subordinate_move, inquire_move}
 use Rattle.station.specs.declared.coordinator.CoordinatorEntry.{CoordinatorEntry}
 use Rattle.station.specs.declared.messages.Message.{Message}
@@ -29,7 +26,6 @@ use Rattle.station.specs.declared.steps.Step.TheVariants as step
 use Rattle.station.specs.declared.subordinate.SubordinateEntry.{SubordinateEntry}
 use Rattle.std.proofs.lemmas.List.FromFn.{length-range_with_len}
 use Rattle.std.proofs.lemmas.List.Sums.{length-filter, count_by-le-length}
-use Rattle.std.proofs.lemmas.Bool.{cond-true}
 use Rattle.std.proofs.lemmas.Bool.Decides.{nat_tests}
 use Rattle.std.specs.List.{range_with_len}
 
@@ -64,16 +60,16 @@ load_push : (p : List Message) (m : Message) → load 8 (p ++ (m ∷ [])) ≡ lo
 load_push [] m = omega arith
 load_push (x ∷ p) m = omega (arith, load_push p m)
 
+load_first : (p : List Message) → 0 < length p → load 8 (without 0 p) + weight 8 (get_or p 0 (letter message.Prepare 0 0 0)).kind ≡ load 8 p
+load_first [] h = absurd (omega arith)
+load_first (m ∷ p) h = omega arith
+
 load_posted : (m : Message) (p : List Message) → load 8 (posted m p) ≤ load 8 p + weight 8 m.kind
 load_posted m p = grind (arith, load_push)
 
 load_act : (s : ℕ) (a : Act) (w : Store) → load 8 (done s a w).post ≤ load 8 w.post + act_weight a
 unfolding done
-load_act s (write x) w = omega arith
-load_act s force w = omega arith
-load_act s (post m) w = load_posted m w.post
-load_act s (mark_installed r) w = omega arith
-load_act s (mark_dropped r) w = omega arith
+load_act s a w = grind (arith, load_posted)
 
 load_acts : (s : ℕ) (l : List Act) (w : Store) → load 8 (all_done s l w).post ≤ load 8 w.post + acts_weight l
 unfolding all_done
@@ -114,26 +110,16 @@ telling_weight o = grind arith
 
 module _ (π : Answers) (s r t : ℕ) where
   enforce_weight : (o : Outcome) (c : ℕ) → acts_weight (acts π s r (step.Enforce o c)) ≤ 1
-  enforce_weight o c =
-      omega (arith, mark_weight o r, acts_join (if_so (π.forces o) (force ∷ [])) (acknowledge π s r o c), if_weight (π.forces o) (force ∷ []), if_weight (π.acknowledges o) (post (letter message.Ack r s c) ∷ []))
+  enforce_weight o c = grind (arith, mark_weight, acts_join, if_weight)
 
   acknowledge_weight : (o : Outcome) (c : ℕ) → acts_weight (acts π s r (step.Acknowledge o c)) ≤ 1
-  acknowledge_weight o c = omega (arith, if_weight (π.acknowledges o) (post (letter message.Ack r s c) ∷ []))
+  acknowledge_weight o c = grind (arith, if_weight)
 
   commit_weight : (x : StationSet) → acts_weight (acts π s r (step.DecideCommit x)) ≤ 16
-  commit_weight x = omega (arith, set_weight message.Commit r s x refl)
+  commit_weight x = grind (arith, set_weight)
 
   abort_weight : (x y : StationSet) → acts_weight (acts π s r (step.DecideAbort x y)) ≤ 16
-  abort_weight x y =
-      let tail = if_so (π.acknowledges outcome.Abort && empty y) (write (line kind.End r 0) ∷ []) in
-      omega (
-        arith,
-        acts_join (logged π.abort_logging (line kind.Abort r x.bits)) (post_each message.Abort r s y ++ tail),
-        acts_join (post_each message.Abort r s y) tail,
-        log_weight π.abort_logging (line kind.Abort r x.bits),
-        set_weight message.Abort r s y refl,
-        if_weight (π.acknowledges outcome.Abort && empty y) (write (line kind.End r 0) ∷ []),
-      )
+  abort_weight x y = grind (arith, acts_join, log_weight, set_weight, if_weight)
 
   subordinate_weight : (e : SubordinateEntry) (k : MessageKind) → acts_weight (acts π s r (subordinate_move e k t).step) < weight 8 k
   subordinate_weight e k = grind (arith, enforce_weight, acknowledge_weight)
@@ -147,27 +133,17 @@ module _ (π : Answers) (s r t : ℕ) where
 module _ (π : Answers) where
   -- a message handed over posts less than it weighs
   load_handed : (m : Message) (f k : ℕ) (st : State) → load 8 (handed π m f k st).state.store.post < load 8 st.store.post + weight 8 m.kind
-  load_handed m f k st =
-      grind (
-        arith,
-        load_step m.receiver m.revision (acts π m.receiver m.revision (heard π st.stations m).step) (heard π st.stations m).next f k st,
-        heard_weight π m.receiver m.revision m.sender st.stations m.kind,
-        weight_some m.kind,
-      )
+  load_handed m f k st = grind (arith, load_step, heard_weight, weight_some)
 
   fit_handed : (m : Message) (f k : ℕ) (st : State) → (handed π m f k st).state.fit ≡ st.fit
   fit_handed m f k st = grind (arith, fit_step)
 
   -- the first message, delivered where the run is fit
   pub first_is : (st : State) (f k : ℕ) → st.fit ≡ true → 0 < length st.store.post → deliver_call π 0 false f k st ≡ handed π (message_at 0 st) f k (removed 0 st)
-  first_is st f k e h = cond-true st.fit _ _ e ∙ cond-true (ltb 0 (length st.store.post)) _ _ (grind (arith, nat_tests))
+  first_is st f k e h = grind (arith, nat_tests)
 
   pub load_falls : (st : State) (f k : ℕ) → st.fit ≡ true → 0 < length st.store.post → load 8 (deliver_call π 0 false f k st).state.store.post < load 8 st.store.post
-  load_falls st f k e h = rw (first_is st f k e h) (omega (arith, load_handed (message_at 0 st) f k (removed 0 st), split st.store.post h))
-    where
-      split : (p : List Message) → 0 < length p → load 8 (without 0 p) + weight 8 (get_or p 0 (letter message.Prepare 0 0 0)).kind ≡ load 8 p
-      split [] h = absurd (omega arith)
-      split (m ∷ p) h = omega arith
+  load_falls st f k e h = rw (first_is st f k e h) (grind (arith, load_handed (message_at 0 st) f k (removed 0 st), load_first))
 
   pub fit_first : (st : State) (f k : ℕ) → st.fit ≡ true → 0 < length st.store.post → (deliver_call π 0 false f k st).state.fit ≡ true
   fit_first st f k e h = rw (first_is st f k e h) (fit_handed (message_at 0 st) f k (removed 0 st) ∙ e)
@@ -178,16 +154,9 @@ pub record Light (n : ℕ) (st v : State) : Type 0 where
   pub weighs : load 8 v.store.post ≤ load 8 st.store.post + n
 
 module _ (π : Answers) (st : State) where
-  light_same : (n : ℕ) → Light n st st
-  light_same n = record { fit = refl; weighs = omega arith }
-
   light_asked : (n : ℕ) (qs : List (ℕ × Bool)) (done : Reply) → Light n st done.state → Light n st (asked qs st done).state
   light_asked n [] done h = h
   light_asked n (q ∷ qs) done h = grind (arith, light_asked n qs done h)
-
-  light_moved : (n s r : ℕ) (m : Move Turn) (f k : ℕ) → acts_weight (acts π s r m.step) ≤ n → Light n st (moved π s r m f k st).state
-  light_moved n s r m f k h =
-      record { fit = fit_step s r (acts π s r m.step) m.next f k st; weighs = omega (arith, load_step s r (acts π s r m.step) m.next f k st) }
 
   light_given_up : (s r f k : ℕ) (e : CoordinatorEntry) → Light 16 st (if_allowed π s r (option_map (turning turn.Coordinator) (give_up_move π e)) f k st).state
   light_given_up s r f k e = grind (arith, fit_step, load_step, abort_weight)

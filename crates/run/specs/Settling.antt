@@ -4,6 +4,7 @@ use Rattle.journal.specs.Limits.{most_stations}
 use Rattle.presumption.specs.Answers.{Answers}
 use Rattle.run.specs.Answers.{answered}
 use Rattle.run.specs.Calls.{Reply, reply, asked, fit?, opened?, coordinator_entry, deliver_call, give_up_call, chase_call, inquire_call}
+use Rattle.run.specs.Runs.{Shown}
 use Rattle.run.specs.State.{State}
 use Rattle.stations.specs.Stations.{all_power, subordinate_at}
 use Rattle.station.specs.Coordinator.{unheard}
@@ -62,6 +63,12 @@ drained π x = delivered π (load most_stations x.state.store.post) x
 pub record Drained (st : State) : Type 0 where
   pub fit : st.fit ≡ true
   pub empty : st.store.post ≡ []
+
+-- A run does a part of settling with so many deliveries, and leaves no message waiting; the presumption stays.
+pub record Settles {P : Type 0} (part : Progress → Progress) (old : Shown P) (deliveries : ℕ) (new : Shown P) : Type 0 where
+  pub progress : progress new.state deliveries ≡ part (progress old.state 0)
+  pub ready : Drained new.state
+  pub presumes : new.presumption ≡ old.presumption
 
 -- The coordinator gives up if it is Collecting, and chases if it is Announcing.
 abbrev pub urged : Answers → CoordinatorEntry → ℕ → State → State

@@ -2,7 +2,8 @@
 ghost use Rattle.std.specs.Prelude.{◌≡◌, IfOk};
 ghost use Rattle.journal.specs.Meaning.{section};
 ghost use Rattle.run.specs.Answers.{answered};
-ghost use Rattle.run.specs.Calls.{reply, moved};
+ghost use Rattle.run.specs.Calls.{moved};
+ghost use Rattle.run.specs.Runs.{LeadsTo};
 ghost use Rattle.run.specs.State.{ready, all_ready, fits, fresh};
 ghost use Rattle.station.specs.Moves.{move};
 
@@ -89,9 +90,8 @@ impl<J: Journal, P: Presumption> Run<J, P> {
     // A step under a fuse, and then the entry changes; a power cut leaves the station dark. Answers the acts done.
     #[tactic(auto, unfolding(crate::specs::State::stepped, actor::specs::Store::answer_under_fuse, actor::specs::Store::done_under_fuse))]
     fn take_step(&mut self, station: u8, revision: u16, step: Step, turn: Turn, fuse: Fuse) -> u8
-        ensures reply { reply (answered result) self.new.state
-            ≡ moved (P.answers self.old.presumption) station revision (move step turn) fuse.acts fuse.kept self.old.state }
-        ensures presumes { self.new.presumption ≡ self.old.presumption }
+        ensures { LeadsTo (moved (P.answers self.old.presumption) station revision (move step turn) fuse.acts fuse.kept)
+            self.old (answered result) self.new }
     {
         match self
             .actor

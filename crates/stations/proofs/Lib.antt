@@ -1,2 +1,2 @@
-pub mod Groups
-pub mod Made
+pub mod FromFn
+pub mod Powers

@@ -1,5 +1,5 @@
 -- The stations of a run, each with its power and its entries by revision.
-use Rattle.std.specs.Prelude.{ℕ, Bool, true, false, ◌&&◌, List, [], ◌∷◌, map, replicate, slice_index_or, slice_set}
+use Rattle.std.specs.Prelude.{ℕ, Bool, true, false, List, [], ◌∷◌, map, replicate, slice_index_or, slice_set}
 use Rattle.journal.specs.declared.records.Record.{Record}
 use Rattle.presumption.specs.Answers.{Answers}
 use Rattle.station.specs.Limits.{most_revisions}
@@ -14,7 +14,7 @@ use Rattle.station.specs.declared.coordinator.CoordinatorEntry.TheVariants as co
 use Rattle.station.specs.declared.subordinate.SubordinateEntry.{SubordinateEntry}
 use Rattle.station.specs.declared.subordinate.SubordinateEntry.TheVariants as subordinate
 
--- No entry of either kind.
+-- Neither entry.
 abbrev pub no_entries : Entries
 no_entries = record { coordinator = coordinator.None; subordinate = subordinate.None }
 

@@ -5,9 +5,8 @@ ghost use Rattle.std.specs.Prelude.{◌≡◌, true, false, not, ◌&&◌, lengt
 ghost use Rattle.std.specs.List.{range_with_len};
 ghost use Rattle.journal.specs.Meaning.{section};
 ghost use Rattle.stations.specs.Stations.{blank, rebuilt, power_at, entries_at, coordinator_at, subordinate_at, turn_station, turn_entry, all_power, activated};
-ghost use Rattle.station.specs.Sets.{members, empty, below, holds};
+ghost use Rattle.station.specs.Sets.{members, empty, below};
 
-use journal::MAX_STATIONS;
 use journal::calls::Journal;
 use presumption::Presumption;
 use station::MAX_REVISIONS;
@@ -23,33 +22,34 @@ use std::marker::Model;
 const REVISIONS: usize = MAX_REVISIONS as usize;
 
 // What a station remembers of one revision.
-#[derive(Clone, Copy)]
+#[derive(Clone, Copy, Debug, PartialEq, Eq)]
 struct Entries {
     coordinator: CoordinatorEntry,
     subordinate: SubordinateEntry,
 }
 
+// Neither entry.
 const NO_ENTRIES: Entries = Entries {
     coordinator: CoordinatorEntry::None,
     subordinate: SubordinateEntry::None,
 };
 
 /// One station: whether it has power, and its entries by revision.
-#[derive(Clone, Copy)]
+#[derive(Clone, Copy, Debug, PartialEq, Eq)]
 pub struct Station {
     power: bool,
     entries: [Entries; REVISIONS],
 }
 
 /// An entry that changes.
-#[derive(Clone, Copy)]
+#[derive(Clone, Copy, Debug, PartialEq, Eq)]
 pub enum Turn {
     Coordinator(CoordinatorEntry),
     Subordinate(SubordinateEntry),
 }
 
 /// All stations of a run, by their numbers.
-#[derive(Drop)]
+#[derive(Debug, Drop)]
 pub struct Stations {
     rows: Vec<Station>,
 }
@@ -67,6 +67,7 @@ impl Model for Stations {
 
 impl Station {
     /// A station without entries.
+    #[tactic(auto, unfolding(crate::specs::Stations::blank))]
     pub fn new(power: bool) -> Station
         ensures { result ≡ blank power }
     {
@@ -80,6 +81,7 @@ impl Station {
     fn turn(&mut self, revision: u16, turn: Turn)
         ensures { self.new ≡ turn_station revision turn self.old }
     {
+        // A slice's `get_mut` says nothing of what the slice ends as, so the test comes first.
         let revision = usize::from(revision);
         if revision < self.entries.len() {
             match turn {
@@ -96,6 +98,7 @@ impl Station {
         Station {
             power: true,
             entries: array::from_fn(|revision| {
+                // An array counts by `usize`, a record by `u16`: below `REVISIONS` no bit is lost.
                 let revision = revision as u16;
                 Entries {
                     coordinator: recover_coordinator(journal, presumption, station, revision),
@@ -119,6 +122,7 @@ impl Stations {
     pub fn len(&self) -> u8
         ensures { result ≡ length self.now }
     {
+        // The invariant keeps the number within a `u8`.
         self.rows.len() as u8
     }
 
@@ -144,7 +148,7 @@ impl Stations {
     pub fn have_power(&self, set: StationSet) -> bool
         ensures { result ≡ all_power self.now (members set) }
     {
-        (0..MAX_STATIONS).all(|station| !set.contains(station) || self.power(station))
+        set.into_iter().all(|station| self.power(station))
     }
 
     /// Have all stations power?
@@ -189,14 +193,13 @@ impl Stations {
     }
 
     /// All stations of the set become Active for the revision.
+    #[tactic(auto, unfolding(crate::specs::Stations::activated))]
     pub fn activate(&mut self, set: StationSet, revision: u16, coordinator: u8)
         ensures { self.new ≡ activated revision coordinator (members set) self.old }
     {
         let active = Turn::Subordinate(SubordinateEntry::Active { coordinator });
-        for station in 0..MAX_STATIONS {
-            if set.contains(station) {
-                self.turn(station, revision, active);
-            }
+        for station in set {
+            self.turn(station, revision, active);
         }
     }
 

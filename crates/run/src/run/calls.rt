@@ -1,7 +1,8 @@
 //! The calls of a run. Each asks its questions in their order, and the first no refuses it.
 ghost use Rattle.std.specs.Prelude.{◌≡◌, true, [], ◌∷◌, IfOk, OnOk};
 ghost use Rattle.run.specs.Answers.{answer_of, plain_answer};
-ghost use Rattle.run.specs.Calls.{Asks, reply, fit?, there?, opened?, power?, opened_questions, coordinator_questions, subordinate_questions, message_questions, coordinator_of, message_at, heard, open_call, close_call, give_up_call, chase_call, reject_call, inquire_call, deliver_call, lose_call, cut_call, restart_call};
+ghost use Rattle.run.specs.Calls.{Asks, fit?, there?, opened?, power?, opened_questions, coordinator_questions, subordinate_questions, message_questions, coordinator_of, message_at, heard, open_call, close_call, give_up_call, chase_call, reject_call, inquire_call, deliver_call, lose_call, cut_call, restart_call};
+ghost use Rattle.run.specs.Runs.{LeadsTo};
 ghost use Rattle.actor.specs.Log.{row_at};
 ghost use Rattle.journal.specs.Meaning.{section};
 ghost use Rattle.stations.specs.Stations.{rebuilt};
@@ -89,11 +90,12 @@ impl<J: Journal, P: Presumption> Run<J, P> {
         self.check_power(station)
     }
 
+    // Written out: one function for these five would take a closure whose contract is longer than their bodies.
+
     /// Opens the vote on a revision: PREPARE goes to its set. Answers the acts done.
     pub fn close(&mut self, revision: u16, fuse: Fuse) -> Result<u8, Refusal>
-        ensures reply { reply (answer_of result) self.new.state
-            ≡ close_call (P.answers self.old.presumption) revision fuse.acts fuse.kept self.old.state }
-        ensures presumes { self.new.presumption ≡ self.old.presumption }
+        ensures { LeadsTo (close_call (P.answers self.old.presumption) revision fuse.acts fuse.kept)
+            self.old (answer_of result) self.new }
     {
         let station = self.coordinator_of(revision)?;
         let mut entry = self.stations.coordinator(station, revision);
@@ -104,9 +106,8 @@ impl<J: Journal, P: Presumption> Run<J, P> {
 
     /// Gives a revision up: its set is told ABORT. Answers the acts done.
     pub fn give_up(&mut self, revision: u16, fuse: Fuse) -> Result<u8, Refusal>
-        ensures reply { reply (answer_of result) self.new.state
-            ≡ give_up_call (P.answers self.old.presumption) revision fuse.acts fuse.kept self.old.state }
-        ensures presumes { self.new.presumption ≡ self.old.presumption }
+        ensures { LeadsTo (give_up_call (P.answers self.old.presumption) revision fuse.acts fuse.kept)
+            self.old (answer_of result) self.new }
     {
         let station = self.coordinator_of(revision)?;
         let mut entry = self.stations.coordinator(station, revision);
@@ -119,9 +120,8 @@ impl<J: Journal, P: Presumption> Run<J, P> {
 
     /// Tells the outcome again to those that have not acknowledged it. Answers the acts done.
     pub fn chase(&mut self, revision: u16, fuse: Fuse) -> Result<u8, Refusal>
-        ensures reply { reply (answer_of result) self.new.state
-            ≡ chase_call (P.answers self.old.presumption) revision fuse.acts fuse.kept self.old.state }
-        ensures presumes { self.new.presumption ≡ self.old.presumption }
+        ensures { LeadsTo (chase_call (P.answers self.old.presumption) revision fuse.acts fuse.kept)
+            self.old (answer_of result) self.new }
     {
         let station = self.coordinator_of(revision)?;
         let entry = self.stations.coordinator(station, revision);
@@ -132,9 +132,8 @@ impl<J: Journal, P: Presumption> Run<J, P> {
 
     /// A station drops a revision before the vote. Answers the acts done.
     pub fn reject(&mut self, revision: u16, station: u8, fuse: Fuse) -> Result<u8, Refusal>
-        ensures reply { reply (answer_of result) self.new.state
-            ≡ reject_call (P.answers self.old.presumption) revision station fuse.acts fuse.kept self.old.state }
-        ensures presumes { self.new.presumption ≡ self.old.presumption }
+        ensures { LeadsTo (reject_call (P.answers self.old.presumption) revision station fuse.acts fuse.kept)
+            self.old (answer_of result) self.new }
     {
         self.check_subordinate(revision, station)?;
         let mut entry = self.stations.subordinate(station, revision);
@@ -145,9 +144,8 @@ impl<J: Journal, P: Presumption> Run<J, P> {
 
     /// A station in doubt asks the coordinator for the outcome. Answers the acts done.
     pub fn inquire(&mut self, revision: u16, station: u8, fuse: Fuse) -> Result<u8, Refusal>
-        ensures reply { reply (answer_of result) self.new.state
-            ≡ inquire_call (P.answers self.old.presumption) revision station fuse.acts fuse.kept self.old.state }
-        ensures presumes { self.new.presumption ≡ self.old.presumption }
+        ensures { LeadsTo (inquire_call (P.answers self.old.presumption) revision station fuse.acts fuse.kept)
+            self.old (answer_of result) self.new }
     {
         self.check_subordinate(revision, station)?;
         let entry = self.stations.subordinate(station, revision);
@@ -187,9 +185,8 @@ impl<J: Journal, P: Presumption> Run<J, P> {
 
     /// Hands a waiting message to its receiver; with `copy` it waits on as well. Answers the acts done.
     pub fn deliver(&mut self, place: usize, copy: bool, fuse: Fuse) -> Result<u8, Refusal>
-        ensures reply { reply (answer_of result) self.new.state
-            ≡ deliver_call (P.answers self.old.presumption) place copy fuse.acts fuse.kept self.old.state }
-        ensures presumes { self.new.presumption ≡ self.old.presumption }
+        ensures { LeadsTo (deliver_call (P.answers self.old.presumption) place copy fuse.acts fuse.kept)
+            self.old (answer_of result) self.new }
     {
         let message = self.message_at(place)?;
         if !copy {
@@ -204,8 +201,7 @@ impl<J: Journal, P: Presumption> Run<J, P> {
 
     /// Loses a waiting message.
     pub fn lose(&mut self, place: usize) -> Result<(), Refusal>
-        ensures reply { reply (plain_answer result) self.new.state ≡ lose_call place self.old.state }
-        ensures presumes { self.new.presumption ≡ self.old.presumption }
+        ensures { LeadsTo (lose_call place) self.old (plain_answer result) self.new }
     {
         let _ = self.message_at(place)?;
         self.actor.remove(place);
@@ -214,8 +210,7 @@ impl<J: Journal, P: Presumption> Run<J, P> {
 
     /// The power fails at a station; of its unforced records so many are kept.
     pub fn cut(&mut self, station: u8, kept: u8) -> Result<(), Refusal>
-        ensures reply { reply (plain_answer result) self.new.state ≡ cut_call station kept self.old.state }
-        ensures presumes { self.new.presumption ≡ self.old.presumption }
+        ensures { LeadsTo (cut_call station kept) self.old (plain_answer result) self.new }
     {
         self.check_fit()?;
         self.check_station(station)?;
@@ -235,9 +230,8 @@ impl<J: Journal, P: Presumption> Run<J, P> {
 
     /// The power returns at a station, and its stable records rebuild its entries.
     pub fn restart(&mut self, station: u8) -> Result<(), Refusal>
-        ensures reply { reply (plain_answer result) self.new.state
-            ≡ restart_call (P.answers self.old.presumption) station self.old.state }
-        ensures presumes { self.new.presumption ≡ self.old.presumption }
+        ensures { LeadsTo (restart_call (P.answers self.old.presumption) station)
+            self.old (plain_answer result) self.new }
     {
         self.check_fit()?;
         self.check_station(station)?;
@@ -251,8 +245,7 @@ impl<J: Journal, P: Presumption> Run<J, P> {
 
     /// Opens a revision: the coordinator's entry becomes Open, each of the set Active. Answers its number.
     pub fn open(&mut self, coordinator: u8, set: StationSet) -> Result<u16, Refusal>
-        ensures reply { reply (answer_of result) self.new.state ≡ open_call coordinator set self.old.state }
-        ensures presumes { self.new.presumption ≡ self.old.presumption }
+        ensures { LeadsTo (open_call coordinator set) self.old (answer_of result) self.new }
     {
         self.check_fit()?;
         if !self.stations.names(coordinator, set) {

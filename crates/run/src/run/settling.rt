@@ -1,9 +1,10 @@
 //! Settling: the post is emptied, and each revision is brought to its end. No power fails within it.
-ghost use Rattle.std.specs.Prelude.{◌≡◌, ◌+◌, ◌^◌, ◌<◌, ◌≤◌, true, [], IfOk, OnOk};
+ghost use Rattle.std.specs.Prelude.{◌≡◌, ◌≤◌, true, [], IfOk, OnOk};
 ghost use Rattle.journal.specs.Limits.{most_stations};
 ghost use Rattle.run.specs.Answers.{answer_of, awaited_answer};
 ghost use Rattle.run.specs.Calls.{Asks, reply, opened_questions, coordinator_entry, unheard_call};
-ghost use Rattle.run.specs.Settling.{Drained, progress, load, drained, urged, inquired, finished, settled, settle_call};
+ghost use Rattle.run.specs.Runs.{LeadsTo};
+ghost use Rattle.run.specs.Settling.{Drained, Settles, load, drained, urged, inquired, finished, settled, settle_call};
 ghost use Rattle.station.specs.Coordinator.{unheard};
 ghost use Rattle.station.specs.Sets.{NamesOne};
 ghost use Rattle.stations.specs.Stations.{subordinate_at};
@@ -48,12 +49,9 @@ impl<J: Journal, P: Presumption> Run<J, P> {
     // Delivers the first message until none waits. Answers the deliveries made.
     fn drain(&mut self) -> usize
         requires { self.old.state.fit ≡ true }
-        ensures progress { progress self.new.state result
-            ≡ drained (P.answers self.old.presumption) (progress self.old.state 0) }
-        ensures ready { Drained self.new.state }
+        ensures settles { Settles (drained (P.answers self.old.presumption)) self.old result self.new }
         ensures few { result ≤ load most_stations self.old.state.store.post }
         ensures bounded { result ≤ 1152 }
-        ensures presumes { self.new.presumption ≡ self.old.presumption }
     {
         let mut deliveries = 0;
         while self.actor.waiting() > 0 {
@@ -95,15 +93,14 @@ impl<J: Journal, P: Presumption> Run<J, P> {
     // Answers the deliveries made.
     fn finish(&mut self, revision: u16) -> usize
         requires { Drained self.old.state }
-        ensures progress { progress self.new.state result
-            ≡ finished (P.answers self.old.presumption) revision (progress self.old.state 0) }
-        ensures ready { Drained self.new.state }
+        ensures settles { Settles (finished (P.answers self.old.presumption) revision)
+            self.old result self.new }
         ensures few { result ≤ 1024 }
-        ensures presumes { self.new.presumption ≡ self.old.presumption }
     {
         let stations = self.stations.len();
         self.urge(revision);
         let mut deliveries = self.drain();
+        // The calls take a station by its number, and change the run meanwhile.
         for station in 0..stations {
             self.resolve(revision, station);
             deliveries += self.drain();
@@ -113,12 +110,11 @@ impl<J: Journal, P: Presumption> Run<J, P> {
 
     // Empties the post and finishes each revision, ascending. Answers the deliveries made.
     fn finish_all(&mut self) -> usize
-        requires fit { self.old.state.fit ≡ true }
-        ensures progress { progress self.new.state result
-            ≡ settled (P.answers self.old.presumption) self.old.state }
-        ensures ready { Drained self.new.state }
-        ensures presumes { self.new.presumption ≡ self.old.presumption }
+        requires { self.old.state.fit ≡ true }
+        ensures { Settles (λ x. settled (P.answers self.old.presumption) x.state)
+            self.old result self.new }
     {
+        // `as` is proved to lose nothing here, where `try_from` would bring in a failure.
         let revisions = self.actor.opened() as u16;
         let mut deliveries = self.drain();
         for revision in 0..revisions {
@@ -129,10 +125,9 @@ impl<J: Journal, P: Presumption> Run<J, P> {
 
     /// Empties the post and brings each revision to its end. Answers the number of deliveries.
     pub fn settle(&mut self) -> Result<usize, Refusal>
-        ensures reply { reply (answer_of result) self.new.state
-            ≡ settle_call (P.answers self.old.presumption) self.old.state }
+        ensures call { LeadsTo (settle_call (P.answers self.old.presumption))
+            self.old (answer_of result) self.new }
         ensures emptied { OnOk result (self.new.state.store.post ≡ []) }
-        ensures presumes { self.new.presumption ≡ self.old.presumption }
     {
         self.check_fit()?;
         if !self.stations.all_have_power() {

@@ -1,9 +1,9 @@
-use Rattle.std.proofs.Common.{rules, ◌≡◌, sym, ◌∙◌}
+use Rattle.std.proofs.Common.{rules, sym, ◌∙◌}
 use borrow.Author.Tests.{tests}
 use Rattle.std.proofs.lemmas.Iterator.{YieldsList-from_slice}
 use Rattle.std.proofs.lemmas.Iterator.Search.{all_from_yields_List}
 use Rattle.stations.specs.declared.Station.{Station}
-use Rattle.stations.proofs.Groups.{all_power-every}
+use Rattle.stations.proofs.Powers.{all_power-every}
 use Rattle.stations.proofs.Stations.all_have_power.Goals as goal
 
 pub returns : goal.returns

@@ -1,13 +1,11 @@
-use Rattle.std.proofs.Common.{rules, refl, not, ◌||◌, ◌∙◌}
+use Rattle.std.proofs.Common.{rules}
 use borrow.Author.Tests.{tests}
-use Rattle.std.proofs.lemmas.Iterator.{YieldsList-from_range}
+use Rattle.std.proofs.lemmas.Iterator.Consumers.{YieldsList-from_rest}
 use Rattle.std.proofs.lemmas.Iterator.Search.{all_from_yields_List}
-use Rattle.station.specs.Sets.{holds}
-use Rattle.stations.specs.Stations.{power_at}
-use Rattle.stations.proofs.Groups.{all_power-members}
+use Rattle.station.specs.Sets.{members}
+use Rattle.stations.specs.Stations.{power_at, all_power}
 use Rattle.stations.proofs.Stations.have_power.Goals as goal
 
 pub returns : goal.returns
-returns c =
-    all_from_yields_List (λ s. not (holds c.args.set s) || power_at c.args.self.now s) _ _ _ c.all.ensures.ran (YieldsList-from_range 0 8 8 refl refl) (λ x b q k. search (rules, tests))
-    ∙ all_power-members c.args.set c.args.self.now
+unfolding all_power
+returns c = all_from_yields_List (power_at c.args.self.now) _ _ _ c.all.ensures.ran (YieldsList-from_rest (members c.args.set) c.into_iter.ensures.into_iter_gives.0) (λ x b q k. (search rules, search (rules, tests)))

@@ -9,5 +9,5 @@ loop-self-smaller g c = draining_falls c.loop-self.invariant (grind arith) c.del
 pub loop-self-preserved : goal.loop-self-preserved
 loop-self-preserved g c = draining_one c.loop-self.invariant (grind arith) (grind arith) c.deliver.new.self (ap (λ (r : Reply). r.state) c.deliver.ensures.reply) c.deliver.ensures.presumes
 
-pub returns-clause-progress : goal.returns-clause-progress
-returns-clause-progress g c = draining_done c.loop-self.invariant (grind arith)
+pub returns-clause-settles : goal.returns-clause-settles
+returns-clause-settles g c = draining_done c.loop-self.invariant (grind arith)

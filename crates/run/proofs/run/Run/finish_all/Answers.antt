@@ -1,12 +1,12 @@
 use Rattle.std.proofs.Common.{rules}
-use Rattle.run.proofs.Settles.{finishing_more, finishing_done}
+use Rattle.run.proofs.Settles.{adds_finished, going_more, going_done, settled_is, settles_as}
+use Rattle.run.specs.Settling.{drained}
 use Rattle.run.proofs.run.Run.finish_all.Goals as goal
 
 pub loop-revision-preserved : goal.loop-revision-preserved
-loop-revision-preserved g c =
-    let finished = c.finish-deliveries.ensures in
-    finishing_more c.loop-revision.invariant c.loop-revision-test.true c.finish-deliveries.new.self c.finish-deliveries.result finished.progress finished.ready finished.few finished.presumes
+loop-revision-preserved g c = going_more c.loop-revision.invariant c.loop-revision-test.true _ _ (adds_finished _ _) c.finish-deliveries.ensures.settles c.finish-deliveries.ensures.few
 
-pub returns-clause-progress : goal.returns-clause-progress
-returns-clause-progress g c =
-    finishing_done c.loop-revision.invariant c.loop-revision-test.false c.args.self.now (search rules) c.drain-deliveries.ensures.progress c.drain-deliveries.ensures.presumes
+pub returns : goal.returns
+returns g c =
+    let π = g.P.Presumption.answers c.args.self.now.presumption in
+    settles_as (going_done c.loop-revision.invariant c.loop-revision-test.false c.args.self.now (drained π) c.drain-deliveries.ensures.settles) (settled_is π c.opened-revisions.result c.args.self.now.state (search rules))
