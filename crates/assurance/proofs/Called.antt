@@ -105,8 +105,7 @@ module _ (π : Answers) (𝓗 : Lawful π) (n : ℕ) (two : 2 ≤ n) (eight : n 
       go coordinator.None q = refl
       go (coordinator.Open x) q = absurd (omega (arith, (co_legal π 𝓗 n two eight st g s r (coordinator.Open x) q).0))
       go (coordinator.Collecting x y) q = absurd (omega (arith, (co_legal π 𝓗 n two eight st g s r (coordinator.Collecting x y) q).0))
-      go (coordinator.Announcing outcome.Commit w) q = absurd (omega (arith, (co_legal π 𝓗 n two eight st g s r (coordinator.Announcing outcome.Commit w) q).0))
-      go (coordinator.Announcing outcome.Abort w) q = absurd (omega (arith, (co_legal π 𝓗 n two eight st g s r (coordinator.Announcing outcome.Abort w) q).0))
+      go (coordinator.Announcing o w) q = absurd (omega (arith, (co_legal π 𝓗 n two eight st g s r (coordinator.Announcing o w) q).0))
 
   no_sub : (s r : ℕ) → length st.store.log ≤ r → subordinate_at st.stations s r ≡ subordinate.None
   no_sub s r h = go (subordinate_at st.stations s r) refl

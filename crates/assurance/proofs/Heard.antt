@@ -55,8 +55,7 @@ module _ (π : Answers) (𝓗 : Lawful π) (n : ℕ) (two : 2 ≤ n) (eight : n 
   names_some r a l e z = g.shape.sets r l (sym e ∙ z)
 
   pub awaited_within : (s r : ℕ) (o : Outcome) (w : StationSet) → coordinator_at st.stations s r ≡ coordinator.Announcing o w → Within n w.bits
-  awaited_within s r outcome.Commit w q t m = g.full.near.sets r t ((co_legal s r (coordinator.Announcing outcome.Commit w) q).4.1 t m).0
-  awaited_within s r outcome.Abort w q t m = g.full.near.sets r t ((co_legal s r (coordinator.Announcing outcome.Abort w) q).4.1 t m).0
+  awaited_within s r o w q t m = g.full.near.sets r t ((co_legal s r (coordinator.Announcing o w) q).4.1 t m).0
 
   -- who is awaited after a decision
   pub await_all : (o : Outcome) (x : StationSet) → (x.bits ≡ 0 → ⊥) → co_as (announcing π o x) ≡ ideal.await o (Q.ackers o x.bits)

@@ -3,11 +3,11 @@ use Rattle.std.proofs.Common.{◌≡◌, ℕ, true, false, List, ◌∷◌, sym,
 use Rattle.std.specs.List.{AllByRecursion}
 use Rattle.std.proofs.lemmas.Bool.Decides.{nat_tests}
 use Rattle.std.proofs.lemmas.Bool.{cond_both, cases_Bool, true≢false}
-use Rattle.assurance.proofs.Ideal.{Kind, kI, kC, kA, kp, Record, has, argument_of, CoordinatorEntry, Collecting, Announcing, MessageKind, PREPARE, YES, NO, COMMIT, ABORT, ACK, INQUIRY, Message, Run, Presumption, with_post, letter, upon_inquire, handed, upon_open, hand_first, nudge, urged, asked}
+use Rattle.assurance.proofs.Ideal.{Kind, kI, kC, kA, kp, Record, has, argument_of, CoordinatorEntry, Collecting, Announcing, MessageKind, PREPARE, YES, NO, COMMIT, ABORT, ACK, INQUIRY, Message, Run, Presumption, with_post, letter, upon_inquire, handed, upon_open, hand_first, nudge, urged, asked, commit, abort}
 use Rattle.assurance.proofs.Lasting.{No, Doom, world, head, Abort, Legal, RecLegal}
 use Rattle.assurance.proofs.SafeActs.{SafeSt}
 use Rattle.assurance.proofs.Claims.{Laws}
-use Rattle.assurance.proofs.SafeRules.{has_legal, safe_inquiry, safe_ack, safe_commit, safe_abort, safe_prepare, safe_give_up, safe_no}
+use Rattle.assurance.proofs.SafeRules.{has_legal, safe_inquiry, safe_ack, safe_prepare, safe_give_up, safe_no, safe_outcome}
 use Rattle.assurance.proofs.SafeCalls.{safe_yes, safe_chase, safe_inquire}
 use Rattle.assurance.proofs.Tidy.{Tidy, tidy_did, Carries}
 use Rattle.assurance.proofs.Rules.{Rule, For, Did, did_handed, did_inquire, did_nudge}
@@ -25,8 +25,8 @@ module _ (π : Presumption) (𝓛 : Laws π) where
   safe_handed PREPARE r s t f k st on h l = safe_prepare π 𝓛 r s t ((st.station s).subordinates r) f k st h.safe (h.tidy s) on l refl
   safe_handed YES r s t f k st on h l = safe_yes π 𝓛 r s t ((st.station s).coordinators r) f k st h.safe l.1 refl
   safe_handed NO r s t f k st on h l = safe_no π 𝓛 r s t ((st.station s).coordinators r) f k st h.safe (h.tidy s) l refl
-  safe_handed COMMIT r s t f k st on h l = safe_commit π 𝓛 r s t ((st.station s).subordinates r) f k st h.safe (h.tidy s) on l refl
-  safe_handed ABORT r s t f k st on h l = safe_abort π 𝓛 r s t ((st.station s).subordinates r) f k st h.safe (h.tidy s) on l refl
+  safe_handed COMMIT r s t f k st on h l = safe_outcome π 𝓛 commit r s t ((st.station s).subordinates r) f k st h.safe (h.tidy s) on l.0 l.1 refl
+  safe_handed ABORT r s t f k st on h l = safe_outcome π 𝓛 abort r s t ((st.station s).subordinates r) f k st h.safe (h.tidy s) on l.0 l.1 refl
   safe_handed ACK r s t f k st on h l = safe_ack π 𝓛 r s t ((st.station s).coordinators r) f k st h.safe l.1 refl
   safe_handed INQUIRY r s t f k st on h l = safe_inquiry π 𝓛 r s t ((st.station s).coordinators r) f k st h.safe (h.tidy s) on l refl
 

@@ -83,6 +83,19 @@ Comm w r = Got kC r (head w r)
 abbrev pub Abort : World → ℕ → Type 0
 Abort w r = Doom r (head w r) ⊎ ((t : ℕ) × Named w r t × Veto r (w.station t))
 
+-- what a decision rests on, and what telling it rests on
+abbrev pub Decided : Outcome → World → ℕ → Type 0
+Decided commit w r = Comm w r
+Decided abort w r = Doom r (head w r)
+
+abbrev pub Reason : Outcome → World → ℕ → Type 0
+Reason commit w r = Comm w r
+Reason abort w r = Abort w r
+
+pub reason_of : (o : Outcome) (w : World) (r : ℕ) → Decided o w r → Reason o w r
+reason_of commit w r h = h
+reason_of abort w r h = inl h
+
 abbrev pub AllPrep : World → ℕ → Type 0
 AllPrep w r = (t : ℕ) → Named w r t → Got kp r (w.station t)
 
@@ -116,7 +129,7 @@ module _ (π : Presumption) where
   RecOf w s kI r a = (s ≡ (w.plan r).coordinator) × (a ≡ (w.plan r).names)
   RecOf w s kC r a = (s ≡ (w.plan r).coordinator) × (a ≡ (w.plan r).names) × AllPrep w r
   RecOf w s kA r a = (s ≡ (w.plan r).coordinator) × (a ≡ (w.plan r).names)
-  RecOf w s kE r a = (s ≡ (w.plan r).coordinator) × ((Comm w r × AllSettled commit w r) ⊎ (Doom r (head w r) × AllSettled abort w r))
+  RecOf w s kE r a = (s ≡ (w.plan r).coordinator) × ((o : Outcome) × Decided o w r × AllSettled o w r)
   RecOf w s kp r a = (a ≡ (w.plan r).coordinator) × Named w r s × Opened w r × Shut ((head w r).coordinators r)
   RecOf w s kc r a = Comm w r
   RecOf w s ka r a = Abort w r
@@ -128,8 +141,7 @@ module _ (π : Presumption) where
   CoLegal w s r none = Unit {0}
   CoLegal w s r (Open a) = (r < w.count) × (s ≡ (w.plan r).coordinator) × (a ≡ (w.plan r).names)
   CoLegal w s r (Collecting a y) = (r < w.count) × (s ≡ (w.plan r).coordinator) × (a ≡ (w.plan r).names) × Opened w r × ((t : ℕ) → in_set y t ≡ true → Got kp r (w.station t))
-  CoLegal w s r (Announcing commit a) = (r < w.count) × (s ≡ (w.plan r).coordinator) × Comm w r × Heard commit w r a × Asked commit w r a
-  CoLegal w s r (Announcing abort a) = (r < w.count) × (s ≡ (w.plan r).coordinator) × Doom r (head w r) × Heard abort w r a × Asked abort w r a
+  CoLegal w s r (Announcing o a) = (r < w.count) × (s ≡ (w.plan r).coordinator) × Decided o w r × Heard o w r a × Asked o w r a
 
   abbrev pub SubLegal : World → ℕ → ℕ → SubordinateEntry → Type 0
   SubLegal w s r idle = Unit {0}
@@ -160,6 +172,14 @@ module _ (π : Presumption) where
     pub abort_grows : (r : ℕ) → r < w.count → Abort w r → Abort v r
     abort_grows r l (inl d) = inl (doom_grows r l d)
     abort_grows r l (inr d) = inr (d.0, rw (g.same r l) d.1, (g.keep _).veto r l d.2)
+
+    pub decided_grows : (o : Outcome) (r : ℕ) → r < w.count → Decided o w r → Decided o v r
+    decided_grows commit r l h = comm_grows r l h
+    decided_grows abort r l h = doom_grows r l h
+
+    pub reason_grows : (o : Outcome) (r : ℕ) → r < w.count → Reason o w r → Reason o v r
+    reason_grows commit r l h = comm_grows r l h
+    reason_grows abort r l h = abort_grows r l h
 
     pub opened_grows : (r : ℕ) → r < w.count → Opened w r → Opened v r
     opened_grows r l h o = at_head (Got kI r) r l ((g.keep _).got kI r (h (rw (g.same r l) at o)))
@@ -192,7 +212,7 @@ module _ (π : Presumption) where
     rec_grows s kI r a l h = rw (g.same r l) h
     rec_grows s kC r a l h = rw (g.same r l) (h.0, h.1, λ t m. (g.keep t).got kp r (h.2 t m))
     rec_grows s kA r a l h = rw (g.same r l) h
-    rec_grows s kE r a l h = (rw (g.same r l) h.0, elim h.1 [ inl i ↦ inl (comm_grows r l i.0, settled_grows commit r l i.1) | inr i ↦ inr (doom_grows r l i.0, settled_grows abort r l i.1) ])
+    rec_grows s kE r a l h = (rw (g.same r l) h.0, (h.1.0, decided_grows h.1.0 r l h.1.1, settled_grows h.1.0 r l h.1.2))
     rec_grows s kp r a l h = (rw (g.same r l) h.0, rw (g.same r l) h.1, opened_grows r l h.2, shut_grows r l h.3)
     rec_grows s kc r a l h = comm_grows r l h
     rec_grows s ka r a l h = abort_grows r l h
@@ -201,8 +221,7 @@ module _ (π : Presumption) where
     co_grows s r none h = tt
     co_grows s r (Open a) h = (known_grows r h.0, rw (g.same r h.0) h.1, rw (g.same r h.0) h.2)
     co_grows s r (Collecting a y) h = (known_grows r h.0, rw (g.same r h.0) h.1, rw (g.same r h.0) h.2, opened_grows r h.0 h.3, λ t m. (g.keep t).got kp r (h.4 t m))
-    co_grows s r (Announcing commit a) h = (known_grows r h.0, rw (g.same r h.0) h.1, comm_grows r h.0 h.2, heard_grows commit r a h.0 h.3, asked_grows commit r a h.0 h.4)
-    co_grows s r (Announcing abort a) h = (known_grows r h.0, rw (g.same r h.0) h.1, doom_grows r h.0 h.2, heard_grows abort r a h.0 h.3, asked_grows abort r a h.0 h.4)
+    co_grows s r (Announcing o a) h = (known_grows r h.0, rw (g.same r h.0) h.1, decided_grows o r h.0 h.2, heard_grows o r a h.0 h.3, asked_grows o r a h.0 h.4)
 
     pub sub_grows : (s r : ℕ) (e : SubordinateEntry) → SubLegal w s r e → SubLegal v s r e
     sub_grows s r idle h = tt

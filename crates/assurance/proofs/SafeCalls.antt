@@ -1,13 +1,13 @@
 -- YES, close, chase, inquire and restart keep the invariant between acts.
 use Rattle.std.proofs.Common.{◌≡◌, ℕ, ◌<◌, true, false, not, ◌&&◌, ◌||◌, eqb, List, [], ◌∷◌, sym, refl, ap, ◌∙◌, subst, inl, inr, arith}
 use Rattle.std.proofs.lemmas.Bool.{cond_both, true≢false, eqb-true, eq-eqb, ne_eqb, and_parts}
-use Rattle.assurance.proofs.Ideal.{in_set, with_station, members, kI, kC, kA, kE, kp, kc, ka, Record, has, argument_of, Outcome, commit, abort, CoordinatorEntry, none, Open, Collecting, Announcing, SubordinateEntry, idle, Prepared, Station, MessageKind, PREPARE, COMMIT, ABORT, INQUIRY, Run, Presumption, at_station, written_station, forced_station, set_coordinator, with_message, write, force, send, acts_done, stay, to_coordinator, turn, step, line, letter, send_each, await, commit_acts, upon_yes, upon_close, upon_chase, upon_inquire, doubtful, outcome_of, resumed, restarted_station}
-use Rattle.assurance.proofs.Lasting.{Got, Past, Inactive, Shut, Doom, Keeps, World, world, Grow, head, Named, Comm, Opened, Legal, CoLegal, SubLegal, opened_grows, recs_grow}
+use Rattle.assurance.proofs.Ideal.{in_set, with_station, members, kI, kC, kA, kE, kp, kc, ka, Record, has, argument_of, Outcome, commit, abort, CoordinatorEntry, none, Open, Collecting, Announcing, SubordinateEntry, idle, Prepared, Station, MessageKind, PREPARE, COMMIT, INQUIRY, Run, Presumption, at_station, written_station, forced_station, set_coordinator, with_message, write, force, send, acts_done, stay, to_coordinator, turn, step, line, letter, send_each, await, commit_acts, upon_yes, upon_close, upon_chase, upon_inquire, doubtful, outcome_of, resumed, restarted_station, outcome_mail}
+use Rattle.assurance.proofs.Lasting.{Got, Past, Inactive, Shut, Doom, Keeps, World, world, Grow, head, Named, Comm, Opened, Legal, CoLegal, SubLegal, opened_grows, recs_grow, reason_of}
 use Rattle.assurance.proofs.SafeActs.{SafeSt, upd_same, here_in, keeps_co, grow_in, safe_in, safe_co_old}
 use Rattle.assurance.proofs.SafeSteps.{Oks, safe_acts, safe_step, safe_step_mid}
 use Rattle.assurance.proofs.Sets.{mem_add, mem_zero}
 use Rattle.assurance.proofs.Claims.{Laws}
-use Rattle.assurance.proofs.SafeRules.{has_legal, ready_oks, now_forced, forced_got, past_await, shut_await, Ready}
+use Rattle.assurance.proofs.SafeRules.{has_legal, ready_oks, now_forced, forced_got, past_await, shut_await, Ready, told}
 use Rattle.assurance.proofs.Rules.{all_sends}
 
 module _ (π : Presumption) (𝓛 : Laws π) where
@@ -55,8 +55,7 @@ module _ (π : Presumption) (𝓛 : Laws π) where
   safe_yes r s t x f k st h v e = h
 
   pub safe_chase : (r s : ℕ) (e : CoordinatorEntry) (f k : ℕ) (st : Run) → SafeSt π st → (st.station s).coordinators r ≡ e → SafeSt π (upon_chase π r s e f k st)
-  safe_chase r s (Announcing commit w) f k st h e = let c = subst (λ v. CoLegal π (world st) s r v) e (h.cos s r) in safe_step π s (send_each COMMIT r s (members π.size w)) stay f k st h (oks_send COMMIT r s w st (λ t. (c.0, inl c.2))) (λ h'. h')
-  safe_chase r s (Announcing abort w) f k st h e = let c = subst (λ v. CoLegal π (world st) s r v) e (h.cos s r) in safe_step π s (send_each ABORT r s (members π.size w)) stay f k st h (oks_send ABORT r s w st (λ t. (c.0, inl (inl c.2)))) (λ h'. h')
+  safe_chase r s (Announcing o w) f k st h e = let c = subst (λ v. CoLegal π (world st) s r v) e (h.cos s r) in safe_step π s (send_each (outcome_mail o) r s (members π.size w)) stay f k st h (oks_send (outcome_mail o) r s w st (λ t. (c.0, told π 𝓛 o r s t (world st) (reason_of o (world st) r c.2)))) (λ h'. h')
   safe_chase r s x f k st h e = h
 
   pub safe_inquire : (r s : ℕ) (e : SubordinateEntry) (f k : ℕ) (st : Run) → SafeSt π st → (st.station s).subordinates r ≡ e → SafeSt π (upon_inquire π r s e f k st)

@@ -3,8 +3,8 @@ use Rattle.std.proofs.Common.{◌≡◌, ℕ, ◌<◌, Bool, true, false, eqb, �
 use Rattle.std.specs.List.{AllByRecursion}
 use Rattle.assurance.proofs.Each.{All-weaker, All-append}
 use Rattle.std.proofs.lemmas.Bool.{or_cases, or_left, or_right, cond_both, cond-true, cond-false, cases_Bool, true≢false, eqb-true, eq-eqb, ne_eqb, and_parts}
-use Rattle.assurance.proofs.Ideal.{in_set, without_station, members, Kind, kI, kC, kA, kE, kp, kc, ka, Record, is, has, argument_of, Outcome, commit, abort, CoordinatorEntry, none, Open, Collecting, Announcing, SubordinateEntry, idle, Active, Prepared, Station, PREPARE, YES, NO, COMMIT, ABORT, ACK, INQUIRY, Plan, Run, Presumption, at_station, written_station, forced_station, set_coordinator, set_subordinate, marked_installed, marked_dropped, Act, write, force, send, installed, dropped, act_done, stay, to_coordinator, to_subordinate, step, line, letter, send_each, outcome_mail, outcome_kind, await, logged, end_acts, abort_acts, force_if, ack_if, enforce_acts, reject_acts, prepare_acts, upon_prepare, decide_abort, upon_no, upon_outcome, upon_ack, upon_inquiry, upon_give_up, upon_reject}
-use Rattle.assurance.proofs.Lasting.{has_append, Got, No, Past, Inactive, Idle, Shut, Doom, Veto, Settled, World, world, Grow, head, Named, Comm, Abort, Heard, Asked, AllSettled, LegalOf, Legal, RecOf, RecLegal, CoLegal, SubLegal, known_grows, comm_grows, abort_grows, legal_grows, rec_grows}
+use Rattle.assurance.proofs.Ideal.{in_set, without_station, members, Kind, kI, kC, kA, kE, kp, kc, ka, Record, is, has, argument_of, Outcome, commit, abort, CoordinatorEntry, none, Open, Collecting, Announcing, SubordinateEntry, idle, Active, Prepared, Station, PREPARE, YES, NO, ABORT, ACK, INQUIRY, Plan, Run, Presumption, at_station, written_station, forced_station, set_coordinator, set_subordinate, marked_installed, marked_dropped, Act, write, force, send, installed, dropped, act_done, stay, to_coordinator, to_subordinate, step, line, letter, send_each, outcome_mail, outcome_kind, await, logged, end_acts, abort_acts, force_if, ack_if, enforce_acts, reject_acts, prepare_acts, upon_prepare, decide_abort, upon_no, upon_outcome, upon_ack, upon_inquiry, upon_give_up, upon_reject}
+use Rattle.assurance.proofs.Lasting.{has_append, Got, No, Past, Inactive, Idle, Shut, Doom, Veto, Settled, World, world, Grow, head, Named, Comm, Abort, Heard, Asked, AllSettled, LegalOf, Legal, RecOf, RecLegal, CoLegal, SubLegal, known_grows, comm_grows, abort_grows, legal_grows, rec_grows, Decided, Reason, reason_of, reason_grows}
 use Rattle.assurance.proofs.Sets.{mem_del, mem_zero, del_back}
 use Rattle.assurance.proofs.Claims.{Laws}
 use Rattle.assurance.proofs.SafeActs.{SafeSt, upd_same, here_in, keeps_refl, keeps_write, keeps_force, keeps_co, keeps_sub, grow_in, safe_co, safe_co_old, safe_sub}
@@ -104,6 +104,12 @@ module _ (π : Presumption) where
 
 -- INQUIRY
 module _ (π : Presumption) (𝓛 : Laws π) where
+  -- where an E stands, the outcome is the one asked for, or whoever asks is settled
+  by_end : (q o : Outcome) (r t : ℕ) (w : World) → Named w r t → ((p : Outcome) → (p ≡ q → ⊥) → π.acks p t ≡ true) → Decided o w r → AllSettled π o w r → Reason q w r ⊎ Settled r (w.station t)
+  by_end commit commit r t w n a d h = inl d
+  by_end abort abort r t w n a d h = inl (inl d)
+  by_end q o r t w n a d h = inr (h t n (a o (λ e. grind arith)))
+
   answered : (o : Outcome) (r s t : ℕ) (st : Run) → SafeSt π st → TidyS π st.plan s (st.station s) → (st.station s).power ≡ true → IsNone ((st.station s).coordinators r) → Past ((st.station s).coordinators r) → Legal π (world st) (letter INQUIRY r t s) → π.presumed t ≡ o → Legal π (world st) (letter (outcome_mail o) r s t)
   answered commit r s t st h y on e p l q =
       let own = has_legal π (world st) t kp r (st.station t).stable (h.recs t).0 l.1.1 in
@@ -112,28 +118,30 @@ module _ (π : Presumption) (𝓛 : Laws π) where
         | inl c ↦ (l.0, inl (subst (λ (u : ℕ). Got kC r (st.station u)) l.1.0 c))
         | inr c ↦ (let E = y.dropt on r e opened c t own.1.1 (𝓛.commit_presumed t q) in
             let k = there_legal π (world st) s kE r (h.recs s) E in
-            (l.0, elim k.2.1 [ inl i ↦ inl i.0 | inr i ↦ inr (i.1 t own.1.1 (𝓛.commit_presumed t q)) ]))
+            (l.0, by_end commit k.2.1.0 r t (world st) own.1.1 (elim [ commit ↦ λ n. absurd (n refl) | abort ↦ λ _. 𝓛.commit_presumed t q ]) k.2.1.1 k.2.1.2))
       ]
   answered abort r s t st h y on e p l q =
       let own = has_legal π (world st) t kp r (st.station t).stable (h.recs t).0 l.1.1 in
       elim (cases_Bool (has kC r (st.station s).stable)) [
         | inl c ↦ (let E = y.ended on r e c t own.1.1 (𝓛.abort_presumed t q) in
             let k = there_legal π (world st) s kE r (h.recs s) E in
-            (l.0, elim k.2.1 [ inl i ↦ inr (i.1 t own.1.1 (𝓛.abort_presumed t q)) | inr i ↦ inl (inl i.0) ]))
+            (l.0, by_end abort k.2.1.0 r t (world st) own.1.1 (elim [ commit ↦ λ _. 𝓛.abort_presumed t q | abort ↦ λ n. absurd (n refl) ]) k.2.1.1 k.2.1.2))
         | inr c ↦ (l.0, inl (inl (subst (λ (u : ℕ). Doom r (st.station u)) l.1.0 ((c, (y.calm r).0), p))))
       ]
+
+  -- an outcome that has its reason may be told
+  pub told : (o : Outcome) (r s t : ℕ) (w : World) → Reason o w r → LegalOf π w (outcome_mail o) r s t
+  told commit r s t w h = inl h
+  told abort r s t w h = inl h
 
   pub safe_inquiry : (r s t : ℕ) (e : CoordinatorEntry) (f k : ℕ) (st : Run) → SafeSt π st → TidyS π st.plan s (st.station s) → (st.station s).power ≡ true → Legal π (world st) (letter INQUIRY r t s) → (st.station s).coordinators r ≡ e → SafeSt π (upon_inquiry π r s t e f k st)
   safe_inquiry r s t none f k st h y on l e =
       safe_step π s (send (letter (outcome_mail (π.presumed t)) r s t) ∷ []) stay f k st h (answered (π.presumed t) r s t st h y on (rw e tt) (rw e tt) l refl, tt) (λ h'. h')
   safe_inquiry r s t (Open a) f k st h y on l e = h
   safe_inquiry r s t (Collecting a ys) f k st h y on l e = h
-  safe_inquiry r s t (Announcing commit w) f k st h y on l e =
+  safe_inquiry r s t (Announcing o w) f k st h y on l e =
       let c = subst (λ v. CoLegal π (world st) s r v) e (h.cos s r) in
-      safe_step π s (send (letter COMMIT r s t) ∷ []) stay f k st h ((c.0, inl c.2), tt) (λ h'. h')
-  safe_inquiry r s t (Announcing abort w) f k st h y on l e =
-      let c = subst (λ v. CoLegal π (world st) s r v) e (h.cos s r) in
-      safe_step π s (send (letter ABORT r s t) ∷ []) stay f k st h ((c.0, inl (inl c.2)), tt) (λ h'. h')
+      safe_step π s (send (letter (outcome_mail o) r s t) ∷ []) stay f k st h ((c.0, told o r s t (world st) (reason_of o (world st) r c.2)), tt) (λ h'. h')
 
   -- ACK at Announcing
   ended_all : (o : Outcome) (r t w : ℕ) (v : World) → Heard π o v r w → Settled r (v.station t) → without_station w t ≡ 0 → AllSettled π o v r
@@ -154,42 +162,28 @@ module _ (π : Presumption) (𝓛 : Laws π) where
   asked_less o r t w v h z = (λ e. true≢false (sym (eq-eqb _ _ e) ∙ z), λ u m. h.1 u (del_back w t u m))
 
   pub safe_ack : (r s t : ℕ) (e : CoordinatorEntry) (f k : ℕ) (st : Run) → SafeSt π st → Settled r (st.station t) → (st.station s).coordinators r ≡ e → SafeSt π (upon_ack π r s t e f k st)
-  safe_ack r s t (Announcing commit w) f k st h l e =
+  safe_ack r s t (Announcing o w) f k st h l e =
       let c = subst (λ v. CoLegal π (world st) s r v) e (h.cos s r) in
       cond_both (in_set w t) _ st (SafeSt π)
-      (λ _. cond_both (eqb (without_station w t) 0) (step s (write (line kE r 0) ∷ []) (to_coordinator r none) f k st) (at_station s (set_coordinator r (Announcing commit (without_station w t))) st) (SafeSt π)
-      (λ z. safe_step π s (write (line kE r 0) ∷ []) (to_coordinator r none) f k st h ((λ _ _ _. refl, λ _ _ _. refl, (c.0, (c.1, inl (c.2, ended_all commit r t w (world st) c.3 l (eqb-true _ _ z))))), tt) (λ h'. safe_co_old π _ s h' r none (λ _. tt) tt tt))
-      (λ z. safe_co_old π st s h r (Announcing commit (without_station w t)) (λ _. tt) tt (c.0, c.1, c.2, heard_less commit r t w (world st) c.3 l, asked_less commit r t w (world st) c.4 z)))
-      (λ _. h)
-  safe_ack r s t (Announcing abort w) f k st h l e =
-      let c = subst (λ v. CoLegal π (world st) s r v) e (h.cos s r) in
-      cond_both (in_set w t) _ st (SafeSt π)
-      (λ _. cond_both (eqb (without_station w t) 0) (step s (write (line kE r 0) ∷ []) (to_coordinator r none) f k st) (at_station s (set_coordinator r (Announcing abort (without_station w t))) st) (SafeSt π)
-      (λ z. safe_step π s (write (line kE r 0) ∷ []) (to_coordinator r none) f k st h ((λ _ _ _. refl, λ _ _ _. refl, (c.0, (c.1, inr (c.2, ended_all abort r t w (world st) c.3 l (eqb-true _ _ z))))), tt) (λ h'. safe_co_old π _ s h' r none (λ _. tt) tt tt))
-      (λ z. safe_co_old π st s h r (Announcing abort (without_station w t)) (λ _. tt) tt (c.0, c.1, c.2, heard_less abort r t w (world st) c.3 l, asked_less abort r t w (world st) c.4 z)))
+      (λ _. cond_both (eqb (without_station w t) 0) (step s (write (line kE r 0) ∷ []) (to_coordinator r none) f k st) (at_station s (set_coordinator r (Announcing o (without_station w t))) st) (SafeSt π)
+      (λ z. safe_step π s (write (line kE r 0) ∷ []) (to_coordinator r none) f k st h ((λ _ _ _. refl, λ _ _ _. refl, (c.0, (c.1, (o, c.2, ended_all o r t w (world st) c.3 l (eqb-true _ _ z))))), tt) (λ h'. safe_co_old π _ s h' r none (λ _. tt) tt tt))
+      (λ z. safe_co_old π st s h r (Announcing o (without_station w t)) (λ _. tt) tt (c.0, c.1, c.2, heard_less o r t w (world st) c.3 l, asked_less o r t w (world st) c.4 z)))
       (λ _. h)
   safe_ack r s t x f k st h l e = h
 
   -- an outcome at a station with no entry: what it has there is stable
-  quiet : (o : Outcome) (r s : ℕ) (st : Run) → SafeSt π st → TidyS π st.plan s (st.station s) → (st.station s).power ≡ true → Idle ((st.station s).subordinates r) → π.acks o s ≡ true → ((Comm (world st) r × (o ≡ commit)) ⊎ (Abort (world st) r × (o ≡ abort))) ⊎ Settled r (st.station s) → Settled r (st.station s)
+  quiet : (o : Outcome) (r s : ℕ) (st : Run) → SafeSt π st → TidyS π st.plan s (st.station s) → (st.station s).power ≡ true → Idle ((st.station s).subordinates r) → π.acks o s ≡ true → Reason o (world st) r ⊎ Settled r (st.station s) → Settled r (st.station s)
   quiet o r s st h y on i a (inr k) = k
   quiet o r s st h y on i a (inl k) =
-      (i, elim (cases_Bool (has kp r (st.station s).stable)) [ inl p ↦ inr (held (y.knows on r i p)) | inr p ↦ inl (p, (y.calm r).1) ])
+      (i, elim (cases_Bool (has kp r (st.station s).stable)) [ inl p ↦ inr (held o (y.paid o r (𝓛.forcing o s a)) k (y.knows on r i p)) | inr p ↦ inl (p, (y.calm r).1) ])
     where
-      from : Has kc r (st.station s) → Comm (world st) r
-      from c = (there_legal π (world st) s kc r (h.recs s) c).2
-
-      fromA : Has ka r (st.station s) → Abort (world st) r
-      fromA c = (there_legal π (world st) s ka r (h.recs s) c).2
-
-      clear : (q : Outcome) → o ≡ q → has (outcome_kind q) r (st.station s).loose ≡ false
-      clear q e = y.paid q r (𝓛.forcing q s (subst (λ v. π.acks v s ≡ true) e a))
-
-      held : Has kc r (st.station s) ⊎ Has ka r (st.station s) → Got kc r (st.station s) ⊎ Got ka r (st.station s)
-      held (inl (inl c)) = inl c
-      held (inl (inr c)) = elim k [ inl j ↦ absurd (true≢false (sym c ∙ clear commit j.1)) | inr j ↦ absurd (excl π st h r (from (inr c)) j.0) ]
-      held (inr (inl c)) = inr c
-      held (inr (inr c)) = elim k [ inl j ↦ absurd (excl π st h r j.0 (fromA (inr c))) | inr j ↦ absurd (true≢false (sym c ∙ clear abort j.1)) ]
+      held : (o : Outcome) → has (outcome_kind o) r (st.station s).loose ≡ false → Reason o (world st) r → Has kc r (st.station s) ⊎ Has ka r (st.station s) → Got kc r (st.station s) ⊎ Got ka r (st.station s)
+      held o n k (inl (inl c)) = inl c
+      held o n k (inr (inl c)) = inr c
+      held commit n k (inl (inr c)) = absurd (true≢false (sym c ∙ n))
+      held commit n k (inr (inr c)) = absurd (excl π st h r k (there_legal π (world st) s ka r (h.recs s) (inr c)).2)
+      held abort n k (inl (inr c)) = absurd (excl π st h r (there_legal π (world st) s kc r (h.recs s) (inr c)).2 k)
+      held abort n k (inr (inr c)) = absurd (true≢false (sym c ∙ n))
 
   -- decide abort for d: whoever acknowledges and is not in d is settled
   module _ (r s all d : ℕ) (f k : ℕ) (st : Run) (h : SafeSt π st) (known : r < st.count) (own : s ≡ (st.plan r).coordinator) (whole : all ≡ (st.plan r).names) (no : No kC r (st.station s)) (rest : (t : ℕ) → Named (world st) r t → π.acks abort t ≡ true → (in_set d t ≡ true) ⊎ Settled r (st.station t)) (part : (t : ℕ) → in_set d t ≡ true → in_set all t ≡ true) where
@@ -224,7 +218,7 @@ module _ (π : Presumption) (𝓛 : Laws π) where
 
     e_ready : AllByRecursion (Ready π (world st0) s) (end_acts π r all d)
     unfolding st0
-    e_ready = all_end π (Ready π (world st0) s) r all d (λ z. (λ _. refl, λ _. refl, (known, (own, inr (doomed, λ t m a. elim (heard0 t m a) [ inl i ↦ absurd (true≢false (sym (rw z at i) ∙ mem_zero t)) | inr i ↦ i ])))))
+    e_ready = all_end π (Ready π (world st0) s) r all d (λ z. (λ _. refl, λ _. refl, (known, (own, (abort, doomed, λ t m a. elim (heard0 t m a) [ inl i ↦ absurd (true≢false (sym (rw z at i) ∙ mem_zero t)) | inr i ↦ i ])))))
 
     pub safe_decide : SafeSt π (decide_abort π r s all d f k st)
     unfolding st0
@@ -247,14 +241,6 @@ now_forced s x st = ap (λ (u : Run). u.station s) (in_in s forced_station (writ
 
 module _ (π : Presumption) (𝓛 : Laws π) where
   -- to enforce an outcome that has its reason
-  abbrev Reason : Outcome → World → ℕ → Type 0
-  Reason commit w r = Comm w r
-  Reason abort w r = Abort w r
-
-  reason_grows : (o : Outcome) (w v : World) → Grow w v → (r : ℕ) → r < w.count → Reason o w r → Reason o v r
-  reason_grows commit w v g r l h = comm_grows π w v g r l h
-  reason_grows abort w v g r l h = abort_grows π w v g r l h
-
   settled_now : (o : Outcome) (r c s : ℕ) (st : Run) → Idle ((st.station s).subordinates r) → Settled r ((at_station s forced_station (at_station s (written_station (line (outcome_kind o) r c)) st)).station s)
   settled_now commit r c s st i = subst (Settled r) (sym (now_forced s (line kc r c) st)) (i, inr (inl (forced_got kc r c (st.station s))))
   settled_now abort r c s st i = subst (Settled r) (sym (now_forced s (line ka r c) st)) (i, inr (inr (forced_got ka r c (st.station s))))
@@ -274,30 +260,17 @@ module _ (π : Presumption) (𝓛 : Laws π) where
       let g0 = grow_in π st s (set_subordinate r idle) (keeps_sub st.count r idle (st.station s) (λ _. tt) (λ _. tt)) in
       let i : Idle (((at_station s (set_subordinate r idle) st).station s).subordinates r) = rw (here_in s (set_subordinate r idle) st, upd_same (st.station s).subordinates r idle) tt in
       safe_step_first π s (enforce_acts π o r s c) (to_subordinate r idle) f k st (safe_sub π st s h r idle (λ _. tt) (λ _. tt) tt)
-      (oks_enforce o r s c (at_station s (set_subordinate r idle) st) l i (reason_grows o (world st) (world (at_station s (set_subordinate r idle) st)) g0 r l q))
+      (oks_enforce o r s c (at_station s (set_subordinate r idle) st) l i (reason_grows π (world st) (world (at_station s (set_subordinate r idle) st)) g0 o r l q))
 
   ack_ok : (A : Bool) (r s t : ℕ) (st : Run) → (A ≡ true → Legal π (world st) (letter ACK r s t)) → Oks π s (ack_if π A r s t) st
   ack_ok true r s t st h = (h refl, tt)
   ack_ok false r s t st h = tt
 
-  pub safe_commit : (r s t : ℕ) (e : SubordinateEntry) (f k : ℕ) (st : Run) → SafeSt π st → TidyS π st.plan s (st.station s) → (st.station s).power ≡ true → Legal π (world st) (letter COMMIT r t s) → (st.station s).subordinates r ≡ e → SafeSt π (upon_outcome π commit r s t e f k st)
-  safe_commit r s t idle f k st h y on l e =
-      safe_step π s (ack_if π (π.acks commit s) r s t) stay f k st h
-      (ack_ok (π.acks commit s) r s t st (λ a. (l.0, quiet π 𝓛 commit r s st h y on (rw e tt) a (elim l.1 [ inl c ↦ inl (inl (c, refl)) | inr c ↦ inr c ]))))
-      (λ h'. h')
-  safe_commit r s t (Active c) f k st h y on l e = h
-  safe_commit r s t (Prepared c) f k st h y on l e =
-      safe_enforce commit r s c f k st h l.0 (elim l.1 [ inl q ↦ q | inr q ↦ absurd (rw e at q.0) ])
-
-  pub safe_abort : (r s t : ℕ) (e : SubordinateEntry) (f k : ℕ) (st : Run) → SafeSt π st → TidyS π st.plan s (st.station s) → (st.station s).power ≡ true → Legal π (world st) (letter ABORT r t s) → (st.station s).subordinates r ≡ e → SafeSt π (upon_outcome π abort r s t e f k st)
-  safe_abort r s t idle f k st h y on l e =
-      safe_step π s (ack_if π (π.acks abort s) r s t) stay f k st h
-      (ack_ok (π.acks abort s) r s t st (λ a. (l.0, quiet π 𝓛 abort r s st h y on (rw e tt) a (elim l.1 [ inl c ↦ inl (inr (c, refl)) | inr c ↦ inr c ]))))
-      (λ h'. h')
-  safe_abort r s t (Active c) f k st h y on l e =
-      safe_enforce abort r s c f k st h l.0 (elim l.1 [ inl q ↦ q | inr q ↦ absurd (rw e at q.0) ])
-  safe_abort r s t (Prepared c) f k st h y on l e =
-      safe_enforce abort r s c f k st h l.0 (elim l.1 [ inl q ↦ q | inr q ↦ absurd (rw e at q.0) ])
+  pub safe_outcome : (o : Outcome) (r s t : ℕ) (e : SubordinateEntry) (f k : ℕ) (st : Run) → SafeSt π st → TidyS π st.plan s (st.station s) → (st.station s).power ≡ true → r < st.count → Reason o (world st) r ⊎ Settled r (st.station s) → (st.station s).subordinates r ≡ e → SafeSt π (upon_outcome π o r s t e f k st)
+  safe_outcome o r s t idle f k st h y on known l e = safe_step π s (ack_if π (π.acks o s) r s t) stay f k st h (ack_ok (π.acks o s) r s t st (λ a. (known, quiet π 𝓛 o r s st h y on (rw e tt) a l))) (λ h'. h')
+  safe_outcome commit r s t (Active c) f k st h y on known l e = h
+  safe_outcome abort r s t (Active c) f k st h y on known l e = safe_enforce abort r s c f k st h known (elim l [ inl q ↦ q | inr q ↦ absurd (rw e at q.0) ])
+  safe_outcome o r s t (Prepared c) f k st h y on known l e = safe_enforce o r s c f k st h known (elim l [ inl q ↦ q | inr q ↦ absurd (rw e at q.0) ])
 
   -- PREPARE: a station with no entry says NO, and is settled if it acknowledges aborts, unless the revision is committed
   pub safe_prepare : (r s t : ℕ) (e : SubordinateEntry) (f k : ℕ) (st : Run) → SafeSt π st → TidyS π st.plan s (st.station s) → (st.station s).power ≡ true → Legal π (world st) (letter PREPARE r t s) → (st.station s).subordinates r ≡ e → SafeSt π (upon_prepare π r s t e f k st)
@@ -312,7 +285,7 @@ module _ (π : Presumption) (𝓛 : Laws π) where
           elim (cases_Bool (has kp r (st.station s).stable)) [
             | inl p ↦ elim (y.knows on r i p) [
               | inl c ↦ inr (there_legal π (world st) s kc r (h.recs s) c).2
-              | inr c ↦ inl (λ a. quiet π 𝓛 abort r s st h y on i a (inl (inr ((there_legal π (world st) s ka r (h.recs s) c).2, refl))))
+              | inr c ↦ inl (λ a. quiet π 𝓛 abort r s st h y on i a (inl (there_legal π (world st) s ka r (h.recs s) c).2))
             ]
             | inr p ↦ inl (λ a. (i, inl (p, (y.calm r).1)))
           ]

@@ -46,8 +46,7 @@ module _ (π : Presumption) (𝓛 : Laws π) where
     pend_sent o w v a b u m = inl (in_sends (outcome_mail o) r c u (members π.size v) (elem_members π.size v u (a u m) (sets u (b u m))))
 
     asked_of : (o : Outcome) (w : ℕ) → (st.station c).coordinators r ≡ Announcing o w → (u : ℕ) → in_set w u ≡ true → in_set (st.plan r).names u ≡ true
-    asked_of commit w e u m = ((subst (λ x. CoLegal π (world st) c r x) e (h.cos c r)).4.1 u m).0
-    asked_of abort w e u m = ((subst (λ x. CoLegal π (world st) c r x) e (h.cos c r)).4.1 u m).0
+    asked_of o w e u m = ((subst (λ x. CoLegal π (world st) c r x) e (h.cos c r)).4.1 u m).0
 
     tri_nudge : (e : CoordinatorEntry) → (st.station c).coordinators r ≡ e → Tri π 𝓛 r c (nudge π r c e st)
     tri_nudge (Announcing o w) e =
@@ -285,8 +284,7 @@ module _ (π : Presumption) (𝓛 : Laws π) where
       go none e = tt
       go (Open a) e = tt
       go (Collecting a y) e = let l = subst (λ x. CoLegal π (world v) s r x) e (h.safe.cos s r) in subst Rested e (at l.0 l.1)
-      go (Announcing commit w) e = let l = subst (λ x. CoLegal π (world v) s r x) e (h.safe.cos s r) in subst Rested e (at l.0 l.1)
-      go (Announcing abort w) e = let l = subst (λ x. CoLegal π (world v) s r x) e (h.safe.cos s r) in subst Rested e (at l.0 l.1)
+      go (Announcing o w) e = let l = subst (λ x. CoLegal π (world v) s r x) e (h.safe.cos s r) in subst Rested e (at l.0 l.1)
 
       go2 : (e : SubordinateEntry) → (v.station s).subordinates r ≡ e → Sure e
       go2 (Prepared d) e = let l = subst (λ x. SubLegal π (world v) s r x) e (h.safe.subs s r) in subst Sure e ((done r l.0).1 s)

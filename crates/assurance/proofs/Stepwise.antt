@@ -4,7 +4,7 @@ use Rattle.std.proofs.lemmas.List.{map_push, take_more}
 use Rattle.presumption.specs.Answers.{Answers}
 use Rattle.run.specs.Answers.{Answer}
 use Rattle.run.specs.Calls.{Reply, reply}
-use Rattle.run.specs.Runs.{Shown}
+use Rattle.run.specs.Runs.{Shown, LeadsTo}
 use Rattle.run.specs.State.{State}
 use Rattle.run.specs.declared.refusals.Refusal.{Refusal}
 use Rattle.assurance.specs.Lists.{called, after_calls, answers_of}
@@ -31,16 +31,16 @@ module _ (π : Answers) (c : Call) (x : Result Value Refusal) where
 module _ {P : Type 0} (asked : P → Answers) {run u v : Shown P} {xs : List (Result Value Refusal)} where
   -- the next call of a list
   pub performed_next : (cs : List Call) (i : ℕ) (d : Call) (x : Result Value Refusal) → i < length cs → AllPerformed asked (take i cs) run u xs
-      → reply (reported x) v.state ≡ called (asked u.presumption) (get_or cs i d) u.state → IfOk x (Suits (get_or cs i d) u.state) → v.presumption ≡ u.presumption
+      → LeadsTo (called (asked u.presumption) (get_or cs i d)) u (reported x) v → IfOk x (Suits (get_or cs i d) u.state)
       → AllPerformed asked (take (i + 1) cs) run v (xs ++ x ∷ [])
-  performed_next cs i d x l p e s k =
+  performed_next cs i d x l p e s =
       let c = get_or cs i d in
       let π = asked run.presumption in
       let done = take i cs in
-      let at : reply (reported x) v.state ≡ called π c (after_calls π done run.state) = e ∙ (λ j. called (asked (p.presumption j)) c (p.state j)) in
+      let at : reply (reported x) v.state ≡ called π c (after_calls π done run.state) = e.reply ∙ (λ j. called (asked (p.presumption j)) c (p.state j)) in
       rw (take_more cs i d l)
       (record {
-        presumption = k ∙ p.presumption;
+        presumption = e.presumes ∙ p.presumption;
         state = ap (λ (z : Reply). z.state) at ∙ sym (after_one π c x done run.state);
         answers = map_push reported xs x ∙ (ap (λ (l : List Answer). l ++ reported x ∷ []) p.answers ∙ (ap (λ (z : Reply). answers_of π done run.state ++ z.answer ∷ []) at ∙ sym (answers_one π c x done run.state)));
         suits = suits_one π c x done run.state xs p.suits (subst (λ (z : State). IfOk x (Suits c z)) p.state s);

@@ -237,8 +237,7 @@ module _ (π : Presumption) (𝓛 : Laws π) where
               kept x i = elim a [ inl e ↦ rw e (in_left x ms (letter ACK r s c ∷ []) i) | inr e ↦ rw e.1 i ]
 
               lawful : (o' : Outcome) → (st.station c).coordinators r ≡ Announcing o' w → π.acks o' u ≡ true
-              lawful commit k = ((subst (λ x. CoLegal π (world st) c r x) k (h.cos c r)).4.1 u m).1
-              lawful abort k = ((subst (λ x. CoLegal π (world st) c r x) k (h.cos c r)).4.1 u m).1
+              lawful o k = ((subst (λ x. CoLegal π (world st) c r x) k (h.cos c r)).4.1 u m).1
 
               acked : s ≡ u → o ≡ o' → In (letter ACK r u c) v.post
               acked i j = elim a [
@@ -293,8 +292,7 @@ module _ (π : Presumption) (𝓛 : Laws π) where
     rest_of w none l p = tt
     rest_of w (Open a) l p = tt
     rest_of w (Collecting a y) l p = p
-    rest_of w (Announcing commit x) l p = l.4.0 (mem_none x (λ u m. elim (p u m) [ inl i ↦ i | inr i ↦ i ]))
-    rest_of w (Announcing abort x) l p = l.4.0 (mem_none x (λ u m. elim (p u m) [ inl i ↦ i | inr i ↦ i ]))
+    rest_of w (Announcing o x) l p = l.4.0 (mem_none x (λ u m. elim (p u m) [ inl i ↦ i | inr i ↦ i ]))
 
     pub mid_rested : (st0 st : Run) (k : ℕ) → Mid st0 st → Rested (((emptied π st k).left.station c).coordinators r) × Mid st0 (emptied π st k).left
     mid_rested st0 st k h =

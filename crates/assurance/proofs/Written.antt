@@ -3,7 +3,6 @@ use Rattle.std.proofs.Common.{◌≡◌, ℕ, zero, suc, ◌<◌, ◌≤◌, Lis
 use Rattle.std.specs.List.{AllByRecursion, slice_get}
 use Rattle.std.specs.Option.{option_map}
 use Rattle.presumption.specs.Answers.{Answers, Lawful}
-use Rattle.presumption.specs.declared.outcome.Outcome.TheVariants as outcome
 use Rattle.run.specs.Calls.{coordinator_of, coordinator_entry}
 use Rattle.assurance.specs.declared.calls.Call.{Call}
 use Rattle.assurance.specs.declared.calls.Call.TheVariants.{Close, GiveUp, Chase, Reject, Inquire, Deliver}
@@ -55,8 +54,7 @@ module _ (π : Answers) (𝓗 : Lawful π) (n : ℕ) (two : 2 ≤ n) (eight : n 
     give_up_done e q = tt
 
     chase_done : (e : CoordinatorEntry) → coordinator_entry r st ≡ e → Done (option_map (due_of s r) (chase_move e))
-    chase_done (coordinator.Announcing outcome.Commit w) q = (chases π 𝓗 n two eight st g r s 0 0 here (co_legal π 𝓗 n two eight st g s r (coordinator.Announcing outcome.Commit w) q).0 outcome.Commit w q).1
-    chase_done (coordinator.Announcing outcome.Abort w) q = (chases π 𝓗 n two eight st g r s 0 0 here (co_legal π 𝓗 n two eight st g s r (coordinator.Announcing outcome.Abort w) q).0 outcome.Abort w q).1
+    chase_done (coordinator.Announcing o w) q = (chases π 𝓗 n two eight st g r s 0 0 here (co_legal π 𝓗 n two eight st g s r (coordinator.Announcing o w) q).0 o w q).1
     chase_done e q = tt
 
   module _ (r s : ℕ) where

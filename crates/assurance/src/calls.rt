@@ -1,8 +1,8 @@
 //! The calls of a run as values.
-ghost use Rattle.std.specs.Prelude.{◌≡◌, IfOk};
+ghost use Rattle.std.specs.Prelude.{IfOk};
 ghost use Rattle.assurance.specs.Lists.{called};
 ghost use Rattle.assurance.specs.Values.{reported, Suits};
-ghost use Rattle.run.specs.Calls.{reply};
+ghost use Rattle.run.specs.Runs.{LeadsTo};
 
 use journal::calls::Journal;
 use presumption::Presumption;
@@ -82,9 +82,8 @@ pub fn perform<J: Journal, P: Presumption>(
     run: &mut Run<J, P>,
     call: Call,
 ) -> Result<Value, Refusal>
-    ensures reply { reply (reported result) run.new.state ≡ called (P.answers run.old.presumption) call run.old.state }
+    ensures call { LeadsTo (called (P.answers run.old.presumption) call) run.old (reported result) run.new }
     ensures suits { IfOk result (Suits call run.old.state) }
-    ensures presumes { run.new.presumption ≡ run.old.presumption }
 {
     match call {
         Call::Open { coordinator, set } => run.open(coordinator, set).map(Value::Revision),
