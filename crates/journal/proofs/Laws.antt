@@ -1,18 +1,10 @@
 -- What a change of one station's section, and an answer about it, are for the whole journal.
-use Rattle.std.proofs.Common.{◌≡◌, ℕ, ◌<◌, ◌≤◌, cond, eqb, List, length, set, sym, ap, ◌∙◌, ⊎_elim, arith}
-use Rattle.journal.specs.Meaning.{Section, section, no_section, held, roomy, changed, write_answer, served_answer, put, written}
+use Rattle.std.proofs.Common.{◌≡◌, ℕ, ◌<◌, ◌≤◌, eqb, List, length, set, sym, ap, ◌∙◌, ⊎_elim, arith}
+use Rattle.journal.specs.Meaning.{Section, section, no_section, held, changed, write_answer, room_answer, served_answer, put_in, written}
 use Rattle.journal.specs.declared.records.Record.{Record}
 use Rattle.std.proofs.lemmas.List.{set_past, set-get_or}
 use Rattle.std.proofs.lemmas.Bool.{cond-true, cond-false, cases_lt, lt-ltb, le-ltb}
 use Rattle.std.proofs.lemmas.Bool.Decides.{nat_tests}
-
--- What a write answers at a section that is served.
-abbrev pub room_answer : Section → ℕ
-room_answer p = cond (roomy p) 0 12
-
--- What a write makes of a section that is served.
-abbrev pub put_in : Record → Section → Section
-put_in x p = cond (roomy p) (put x p) p
 
 -- At a station not served a change changes nothing.
 pub changed_nothing : (g : Section → Section) (m : List Section) (s : ℕ) → length m ≤ s → changed g m s ≡ m
@@ -23,9 +15,6 @@ pub changed_same : (g : Section → Section) (m : List Section) (s : ℕ) → g 
 changed_same g m s e = ap (set m s) e ∙ set-get_or m s no_section
 
 -- What a force and a cut answer.
-pub served_yes : (m : List Section) (s : ℕ) → s < length m → served_answer m s ≡ 0
-served_yes m s h = grind (arith, nat_tests)
-
 pub served_no : (m : List Section) (s : ℕ) → length m ≤ s → served_answer m s ≡ 11
 served_no m s h = grind (arith, nat_tests)
 

@@ -54,13 +54,21 @@ changed f m s = slice_set m s (f (section m s))
 abbrev pub served_answer : List Section → ℕ → ℕ
 served_answer m s = cond (served m s) 0 11
 
+-- What a write answers at a station that is served: 12 where its section is full.
+abbrev pub room_answer : Section → ℕ
+room_answer p = cond (roomy p) 0 12
+
 -- Write: 11 where the station is not served, then 12 where its section is full.
 abbrev pub write_answer : List Section → ℕ → ℕ
-write_answer m s = cond (served m s) (cond (roomy (section m s)) 0 12) 11
+write_answer m s = cond (served m s) (room_answer (section m s)) 11
 
 -- A record put at the end of the unforced list.
 abbrev pub put : Record → Section → Section
 put x p = section_of p.capacity p.stable (p.unforced ++ x ∷ [])
+
+-- What a write makes of the section of a station that is served.
+abbrev pub put_in : Record → Section → Section
+put_in x p = cond (roomy p) (put x p) p
 
 -- Write, which changes nothing where it is refused.
 abbrev pub written : Record → List Section → ℕ → List Section

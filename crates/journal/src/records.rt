@@ -91,11 +91,11 @@ pub fn decode(bytes: &[u8]) -> Result<(Record, &[u8]), Refusal>
     ensures cases { Decodes bytes.now result }
     ensures splits { Splits bytes.now result }
 {
-    let [letter, high, low, argument, rest @ ..] = bytes else {
+    let [kind, high, low, argument, rest @ ..] = bytes else {
         return Err(Refusal::NotARecord);
     };
     let record = Record {
-        kind: Kind::try_from(*letter)?,
+        kind: Kind::try_from(*kind)?,
         revision: u16::from_be_bytes([*high, *low]),
         argument: *argument,
     };

@@ -1,37 +1,14 @@
 -- Sections that are accepted: the steps of the loops that look them over, and what acceptance says.
-use Rattle.std.proofs.Common.{◌≡◌, ℕ, zero, suc, ◌+◌, ◌-◌, ◌*◌, ◌<◌, ◌≤◌, true, false, ◌&&◌, ltb, leb, List, length, drop, is_some, Some, None, sym, refl, ap, ◌∙◌, inl, inr, arith}
+use Rattle.std.proofs.Common.{◌≡◌, ℕ, zero, suc, ◌+◌, ◌*◌, ◌<◌, ◌≤◌, true, false, ◌&&◌, ltb, leb, List, length, drop, is_some, sym, refl, ap, ◌∙◌, inl, inr, arith}
 use Rattle.journal_bytes.proofs.Putting.{Same, Only, count_same, record_same}
 use Rattle.journal_bytes.proofs.Sections.{within_bytes, same_elsewhere}
 use Rattle.journal_bytes.specs.Layout.{counts_bytes, capacity_of, record_start, size_of, start_of}
 use Rattle.journal_bytes.specs.Opening.{all_decode, counted, accepted, all_accepted}
 use Rattle.journal.specs.Bytes.{record_from, decoded}
 use Rattle.journal.specs.Limits.{record_bytes}
-use Rattle.journal.specs.declared.records.Record.{Record}
 use Rattle.std.proofs.lemmas.List.{drop-drop, length-drop, get_or-drop}
 use Rattle.std.proofs.lemmas.Bool.{cases_lt, cases_eq, and_parts, and_from, leb-true}
 use Rattle.std.proofs.lemmas.Bool.Decides.{nat_tests}
-
--- One record more, or one that is none.
-pub decode_more : (bs : List ℕ) (m i : ℕ) (x : Record) → i < m → decoded bs ≡ Some x → all_decode (drop record_bytes bs) (m - (i + 1)) ≡ all_decode bs (m - i)
-decode_more bs m i x l e =
-    let p : m - i ≡ suc (m - (i + 1)) = omega arith in
-    sym (ap (all_decode bs) p ∙ ap (λ o. is_some o && all_decode (drop record_bytes bs) (m - (i + 1))) e)
-
-pub decode_stop : (bs : List ℕ) (m i : ℕ) → i < m → decoded bs ≡ None → false ≡ all_decode bs (m - i)
-decode_stop bs m i l e =
-    let p : m - i ≡ suc (m - (i + 1)) = omega arith in
-    sym (ap (all_decode bs) p ∙ ap (λ o. is_some o && all_decode (drop record_bytes bs) (m - (i + 1))) e)
-
--- One section more, or one that is not accepted.
-pub accept_more : (bs : List ℕ) (size n s : ℕ) → s < n → accepted bs (s * size) size ≡ true → all_accepted bs size (s + 1) (n - (s + 1)) ≡ all_accepted bs size s (n - s)
-accept_more bs size n s l e =
-    let p : n - s ≡ suc (n - (s + 1)) = omega arith in
-    sym (ap (all_accepted bs size s) p ∙ ap (λ t. t && all_accepted bs size (s + 1) (n - (s + 1))) e)
-
-pub accept_stop : (bs : List ℕ) (size n s : ℕ) → s < n → accepted bs (s * size) size ≡ false → false ≡ all_accepted bs size s (n - s)
-accept_stop bs size n s l e =
-    let p : n - s ≡ suc (n - (s + 1)) = omega arith in
-    sym (ap (all_accepted bs size s) p ∙ ap (λ t. t && all_accepted bs size (s + 1) (n - (s + 1))) e)
 
 -- A section that is long enough for counts, and counts no more than it has room for, is accepted for its records.
 pub accepted_is : (bs : List ℕ) (start size k : ℕ) → counts_bytes ≤ size → k ≡ counted bs start → k ≤ capacity_of size → all_decode (drop (start + counts_bytes) bs) k ≡ accepted bs start size

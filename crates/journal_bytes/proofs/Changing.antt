@@ -5,9 +5,9 @@ use Rattle.journal_bytes.proofs.Putting.{Only, stable_other, stable_long, stable
 use Rattle.journal_bytes.proofs.Sections.{within_bytes, length_sections, section_there, sections_changed}
 use Rattle.journal_bytes.specs.Changes.{record_added, first_kept, bytes_written, bytes_kept, bytes_forced, bytes_cut}
 use Rattle.journal_bytes.specs.Layout.{counts_bytes, capacity_of, stable_count, unforced_count, record_start, fallback, record_in, records_in, section_in, size_of, start_of, stable_of, unforced_of, room_of, sections}
-use Rattle.journal.proofs.Laws.{put_in, changed_nothing, changed_same, written_is}
+use Rattle.journal.proofs.Laws.{changed_nothing, changed_same, written_is}
 use Rattle.journal.specs.Limits.{record_bytes}
-use Rattle.journal.specs.Meaning.{Section, section_of, held, changed, put, written, force_all, forced, keep_first, cut_to}
+use Rattle.journal.specs.Meaning.{Section, section_of, held, changed, put, put_in, written, force_all, forced, keep_first, cut_to}
 use Rattle.journal.specs.declared.records.Record.{Record}
 use Rattle.std.proofs.lemmas.List.FromFn.{length-map-range_with_len, map-range_with_len_more}
 use Rattle.std.proofs.lemmas.Bool.{cases_lt, lt-ltb, le-ltb, cond-true, cond-false}
@@ -110,14 +110,13 @@ module _ (bs : List ℕ) (n s : ℕ) where
       let wide : counts_bytes ≤ size_of bs n = omega arith in
       let fits = within_bytes bs n s l in
       let less : m ≤ room_of bs n = omega arith in
-      ap (λ cs. sections cs n) (cond-true _ _ _ (lt-ltb s n l) ∙ cond-true _ _ _ (lt-ltb 0 (room_of bs n) room))
-      ∙ sections_changed g bs (first_kept bs (start_of bs n s) m) n s l (kept_only bs (start_of bs n s) (size_of bs n) fits m less wide) (section_kept bs (start_of bs n s) (size_of bs n) fits m less wide ∙ is l))
+      rw (lt-ltb s n l, lt-ltb 0 (room_of bs n) room)
+      (sections_changed g bs (first_kept bs (start_of bs n s) m) n s l (kept_only bs (start_of bs n s) (size_of bs n) fits m less wide) (section_kept bs (start_of bs n s) (size_of bs n) fits m less wide ∙ is l)))
       (λ none.
-      ap (λ cs. sections cs n) (cond-true _ _ _ (lt-ltb s n l) ∙ cond-false _ _ _ (le-ltb 0 (room_of bs n) none))
-      ∙ sym (changed_same g (sections bs n) s ((ap g (section_there bs n s l) ∙ sym (is l)) ∙ (none_in bs (start_of bs n s) (size_of bs n) m few none ∙ sym (section_there bs n s l)))))
+      rw (lt-ltb s n l, le-ltb 0 (room_of bs n) none)
+      (sym (changed_same g (sections bs n) s ((ap g (section_there bs n s l) ∙ sym (is l)) ∙ (none_in bs (start_of bs n s) (size_of bs n) m few none ∙ sym (section_there bs n s l))))))
       (cases_lt 0 (room_of bs n)))
-      (λ past.
-      ap (λ cs. sections cs n) (cond-false _ _ _ (le-ltb s n past)) ∙ sym (changed_nothing g (sections bs n) s (omega (arith, length_sections bs n))))
+      (λ past. rw (le-ltb s n past) (sym (changed_nothing g (sections bs n) s (omega (arith, length_sections bs n)))))
       (cases_lt s n)
 
   pub forced_means : sections (bytes_forced bs n s) n ≡ forced (sections bs n) s
@@ -128,19 +127,18 @@ module _ (bs : List ℕ) (n s : ℕ) where
 
   pub written_means : (x : Record) → sections (bytes_written x bs n s) n ≡ written x (sections bs n) s
   written_means x =
-      ⊎_elim
+      let here : sections (bytes_written x bs n s) n ≡ changed (put_in x) (sections bs n) s = ⊎_elim
       (λ l. ⊎_elim
       (λ room.
       let fits = within_bytes bs n s l in
       let roomy = lt-ltb (held (section_in bs (start_of bs n s) (size_of bs n))) (room_of bs n) (omega (arith, held_in bs (start_of bs n s) (size_of bs n))) in
-      ap (λ cs. sections cs n) (cond-true _ _ _ (lt-ltb s n l) ∙ cond-true _ _ _ (lt-ltb counts (room_of bs n) room))
-      ∙ sections_changed (put_in x) bs _ n s l (added_only bs (start_of bs n s) (size_of bs n) fits x room) (section_added bs (start_of bs n s) (size_of bs n) fits x room ∙ sym (cond-true _ _ _ roomy)))
+      rw (lt-ltb s n l, lt-ltb counts (room_of bs n) room)
+      (sections_changed (put_in x) bs _ n s l (added_only bs (start_of bs n s) (size_of bs n) fits x room) (section_added bs (start_of bs n s) (size_of bs n) fits x room ∙ sym (cond-true _ _ _ roomy))))
       (λ full.
       let no_room = le-ltb (held (section_in bs (start_of bs n s) (size_of bs n))) (room_of bs n) (omega (arith, held_in bs (start_of bs n s) (size_of bs n))) in
-      ap (λ cs. sections cs n) (cond-true _ _ _ (lt-ltb s n l) ∙ cond-false _ _ _ (le-ltb counts (room_of bs n) full))
-      ∙ sym (changed_same (put_in x) (sections bs n) s ((ap (put_in x) (section_there bs n s l) ∙ cond-false _ _ _ no_room) ∙ sym (section_there bs n s l))))
+      rw (lt-ltb s n l, le-ltb counts (room_of bs n) full)
+      (sym (changed_same (put_in x) (sections bs n) s ((ap (put_in x) (section_there bs n s l) ∙ cond-false _ _ _ no_room) ∙ sym (section_there bs n s l)))))
       (cases_lt counts (room_of bs n)))
-      (λ past.
-      ap (λ cs. sections cs n) (cond-false _ _ _ (le-ltb s n past)) ∙ sym (changed_nothing (put_in x) (sections bs n) s (omega (arith, length_sections bs n))))
-      (cases_lt s n)
-      ∙ written_is x (sections bs n) s
+      (λ past. rw (le-ltb s n past) (sym (changed_nothing (put_in x) (sections bs n) s (omega (arith, length_sections bs n)))))
+      (cases_lt s n) in
+      here ∙ written_is x (sections bs n) s

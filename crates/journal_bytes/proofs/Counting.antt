@@ -1,8 +1,8 @@
 -- Lists made from a function of the place.
 use Rattle.std.proofs.Common.{◌≡◌, ℕ, zero, suc, ◌+◌, ◌<◌, ◌≤◌, min, ◌≢◌, ◌∷◌, ◌++◌, map, take, set, refl, ap, inl, inr, add-zero, zero-add, arith}
 use Rattle.std.proofs.lemmas.List.FromFn.{length-map-range_with_len, get_or-map-range_with_len, take-map-range_with_len}
-use Rattle.std.proofs.lemmas.List.{get_or-set_same, get_or-set_other, length-set, same_lists, take_all}
-use Rattle.std.proofs.lemmas.Bool.{cases_eq, cases_lt}
+use Rattle.std.proofs.lemmas.List.{get_or-set_same, get_or-set_other, length-set, same_lists, take_min}
+use Rattle.std.proofs.lemmas.Bool.{cases_eq}
 use Rattle.std.specs.List.{range_with_len}
 
 module _ {X : Type 0} (f g : ℕ → X) where
@@ -39,8 +39,4 @@ module _ {X : Type 0} (f : ℕ → X) where
 
   -- The first of them, or all if there are fewer.
   pub counted_take : (a n k : ℕ) → take k (map f (range_with_len a n)) ≡ map f (range_with_len a (min k n))
-  counted_take a n k =
-      elim (cases_lt k n) [
-        | inl l ↦ let e : min k n ≡ k = omega arith in rw e (take-map-range_with_len f a n k (omega arith))
-        | inr h ↦ let e : min k n ≡ n = omega arith in rw e (take_all k _ (omega (arith, length-map-range_with_len f a n)))
-      ]
+  counted_take a n k = rw (← take_min, length-map-range_with_len) (take-map-range_with_len f a n (min k n) (omega arith))

@@ -1,10 +1,10 @@
 -- The bytes of a journal stay a journal's: they are sound from its making on, and every call keeps them so.
-use Rattle.std.proofs.Common.{◌≡◌, ℕ, ◌+◌, ◌/◌, ◌<◌, ◌≤◌, min, true, ◌&&◌, leb, ◌⊎◌, List, length, is_some, Some, None, Option, unwrap_or, sym, refl, ap, ◌∙◌, subst, inl, inr, ⊎_elim, arith}
+use Rattle.std.proofs.Common.{◌*◌, ◌≡◌, ℕ, ◌+◌, ◌/◌, ◌<◌, ◌≤◌, min, true, ◌&&◌, leb, ◌⊎◌, List, length, is_some, Some, None, Option, unwrap_or, sym, refl, ap, ◌∙◌, subst, inl, inr, ⊎_elim, arith}
 use Rattle.journal_bytes.proofs.Accepting.{AcceptedAt, accepted_parts, accepted_from, each_accepted, accepted_changed}
 use Rattle.journal_bytes.proofs.Changing.{all_records, held_in, added_only, kept_only}
 use Rattle.journal_bytes.proofs.Putting.{Only, stable_first, stable_second, stable_records, added_first, added_second, added_there, added_before, stable_long, added_long}
 use Rattle.journal_bytes.proofs.Sections.{within_bytes, section_there}
-use Rattle.journal_bytes.specs.Changes.{record_added, first_kept, bytes_written, bytes_kept, bytes_forced, bytes_cut}
+use Rattle.journal_bytes.specs.Changes.{record_added, first_kept, bytes_written, bytes_kept}
 use Rattle.journal_bytes.specs.Laws.{Exact, Sound}
 use Rattle.journal_bytes.specs.Layout.{most_bytes, counts_bytes, capacity_of, stable_count, unforced_count, record_start, fallback, record_in, records_in, section_in, size_of, start_of, stable_of, unforced_of, room_of, sections}
 use Rattle.journal_bytes.specs.Opening.{counted, accepted, all_accepted, served_in}
@@ -84,36 +84,37 @@ module _ (bs : List ℕ) (n s : ℕ) (h : served_in bs n ≡ n) where
   abbrev counts : ℕ
   counts = stable_of bs n s + unforced_of bs n s
 
-  written_served : (x : Record) → served_in (bytes_written x bs n s) n ≡ n
+  pub written_served : (x : Record) → served_in (bytes_written x bs n s) n ≡ n
   written_served x =
       ⊎_elim
       (λ l. ⊎_elim
       (λ room.
       let fits = within_bytes bs n s l in
-      ap (λ cs. served_in cs n) (cond-true _ _ _ (lt-ltb s n l) ∙ cond-true _ _ _ (lt-ltb counts (room_of bs n) room))
-      ∙ served_changed bs _ n s l (added_only bs (start_of bs n s) (size_of bs n) fits x room) (accepted_added bs (start_of bs n s) (size_of bs n) fits x room) h)
-      (λ full. ap (λ cs. served_in cs n) (cond-true _ _ _ (lt-ltb s n l) ∙ cond-false _ _ _ (le-ltb counts (room_of bs n) full)) ∙ h)
+      rw (lt-ltb s n l, lt-ltb counts (room_of bs n) room)
+      (served_changed bs (record_added bs (start_of bs n s) (stable_of bs n s) (unforced_of bs n s) x) n s l (added_only bs (start_of bs n s) (size_of bs n) fits x room) (accepted_added bs (start_of bs n s) (size_of bs n) fits x room) h))
+      (λ full. rw (lt-ltb s n l, le-ltb counts (room_of bs n) full) h)
       (cases_lt counts (room_of bs n)))
-      (λ past. ap (λ cs. served_in cs n) (cond-false _ _ _ (le-ltb s n past)) ∙ h)
+      (λ past. rw (le-ltb s n past) h)
       (cases_lt s n)
 
-  kept_served : (m : ℕ) → m ≤ counts → served_in (bytes_kept m bs n s) n ≡ n
+  pub kept_served : (m : ℕ) → m ≤ counts → served_in (bytes_kept m bs n s) n ≡ n
   kept_served m few =
       ⊎_elim
       (λ l. ⊎_elim
       (λ room.
       let fits = within_bytes bs n s l in
       let wide : counts_bytes ≤ size_of bs n = omega arith in
-      ap (λ cs. served_in cs n) (cond-true _ _ _ (lt-ltb s n l) ∙ cond-true _ _ _ (lt-ltb 0 (room_of bs n) room))
-      ∙ served_changed bs _ n s l (kept_only bs (start_of bs n s) (size_of bs n) fits m (omega arith) wide) (accepted_kept bs (start_of bs n s) (size_of bs n) fits m few wide) h)
-      (λ none. ap (λ cs. served_in cs n) (cond-true _ _ _ (lt-ltb s n l) ∙ cond-false _ _ _ (le-ltb 0 (room_of bs n) none)) ∙ h)
+      let less : m ≤ room_of bs n = omega arith in
+      rw (lt-ltb s n l, lt-ltb 0 (room_of bs n) room)
+      (served_changed bs (first_kept bs (start_of bs n s) m) n s l (kept_only bs (start_of bs n s) (size_of bs n) fits m less wide) (accepted_kept bs (start_of bs n s) (size_of bs n) fits m few wide) h))
+      (λ none. rw (lt-ltb s n l, le-ltb 0 (room_of bs n) none) h)
       (cases_lt 0 (room_of bs n)))
-      (λ past. ap (λ cs. served_in cs n) (cond-false _ _ _ (le-ltb s n past)) ∙ h)
+      (λ past. rw (le-ltb s n past) h)
       (cases_lt s n)
 
 some_is : (o : Option Record) → is_some o ≡ true → Some (unwrap_or o fallback) ≡ o
 some_is (Some x) h = refl
-some_is None h = let z : ◌≡◌ {A = ℕ} 0 1 = cc in absurd (omega arith)
+some_is None h = absurd (cc)
 
 -- An accepted section holds exactly what it counts.
 exact_in : (bs : List ℕ) (start size : ℕ) → AcceptedAt bs start size → Exact bs start (section_in bs start size)
@@ -133,33 +134,25 @@ exact_in bs start size s =
           ∙ some_is (record_from bs (record_start start i)) (s.each i (omega arith))));
     }
 
-sound_from : (bs : List ℕ) (n : ℕ) → served_in bs n ≡ n → Sound bs n
+-- Each section of a journal that serves all its stations is accepted.
+pub section_accepted : (bs : List ℕ) (n s : ℕ) → served_in bs n ≡ n → s < n → counts_bytes ≤ size_of bs n → AcceptedAt bs (start_of bs n s) (size_of bs n)
+section_accepted bs n s h l wide =
+    let p = served_parts bs n (omega arith) h in
+    accepted_parts bs (start_of bs n s) (size_of bs n) wide (within_bytes bs n s l) (each_accepted bs (size_of bs n) 0 n s p.1 (omega arith) (omega arith))
+
+-- So it counts no more records than it has room for.
+pub room_there : (bs : List ℕ) (n s size start : ℕ) → served_in bs n ≡ n → s < n → size ≡ size_of bs n → start ≡ s * size → counts_bytes ≤ size → counted bs start ≤ capacity_of size
+room_there bs n s size start h l z e wide =
+    let wide_there : counts_bytes ≤ size_of bs n = omega arith in
+    rw (e, z) (section_accepted bs n s h l wide_there).room
+
+pub sound_from : (bs : List ℕ) (n : ℕ) → served_in bs n ≡ n → Sound bs n
 sound_from bs n h = record {
   again = h;
   same = ap (sections bs) h;
-  exact = λ s l wide.
-      let p = served_parts bs n (omega arith) h in
-      subst (Exact bs (start_of bs n s)) (sym (section_there bs n s l)) (exact_in bs (start_of bs n s) (size_of bs n) (accepted_parts bs (start_of bs n s) (size_of bs n) wide (within_bytes bs n s l) (each_accepted bs (size_of bs n) 0 n s p.1 (omega arith) (omega arith))));
+  exact = λ s l wide. subst (Exact bs (start_of bs n s)) (sym (section_there bs n s l)) (exact_in bs (start_of bs n s) (size_of bs n) (section_accepted bs n s h l wide));
 }
 
--- The bytes of a journal that was just made.
-pub opened_few : (bs : List ℕ) (n : ℕ) → min (served_in bs n) most_stations ≡ served_in bs n
-opened_few bs n =
-    elim (cases_Bool (leb n most_stations && all_accepted bs (size_of bs n) 0 n)) [
-      | inl e ↦ let l : n ≤ most_stations = leb-true _ _ (and_parts _ _ e).0 in let is : served_in bs n ≡ n = cond-true _ _ _ e in omega arith
-      | inr e ↦ let is : served_in bs n ≡ 0 = cond-false _ _ _ e in omega arith
-    ]
-
-pub opened_sound : (bs : List ℕ) (n : ℕ) → Sound bs (served_in bs n)
-opened_sound bs n = sound_from bs (served_in bs n) (⊎_elim (λ e. ap (served_in bs) e) (λ e. ap (served_in bs) e ∙ sym e) (served_cases bs n))
-
--- And after each call.
-module _ (bs : List ℕ) (n s : ℕ) where
-  pub written_sound : (x : Record) → Sound bs n → Sound (bytes_written x bs n s) n
-  written_sound x h = sound_from (bytes_written x bs n s) n (written_served bs n s h.again x)
-
-  pub forced_sound : Sound bs n → Sound (bytes_forced bs n s) n
-  forced_sound h = sound_from (bytes_forced bs n s) n (kept_served bs n s h.again (counts bs n s h.again) (omega arith))
-
-  pub cut_sound : (k : ℕ) → Sound bs n → Sound (bytes_cut k bs n s) n
-  cut_sound k h = sound_from (bytes_cut k bs n s) n (kept_served bs n s h.again (stable_of bs n s + min k (unforced_of bs n s)) (omega arith))
+-- A journal made again serves as many.
+pub served_again : (bs : List ℕ) (n : ℕ) → served_in bs (served_in bs n) ≡ served_in bs n
+served_again bs n = ⊎_elim (λ e. ap (served_in bs) e) (λ e. ap (served_in bs) e ∙ sym e) (served_cases bs n)

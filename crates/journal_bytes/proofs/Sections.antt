@@ -1,5 +1,5 @@
 -- The sections that bytes hold: where they lie, and what a change inside one of them leaves of the others.
-use Rattle.std.proofs.Common.{◌≡◌, ℕ, ◌+◌, ◌*◌, ◌/◌, ◌<◌, ◌≤◌, min, ◌≢◌, List, map, length, set, unwrap_or, sym, ap, ◌∙◌, inl, inr, mul-le-mul_right, add-mul, div-le_self, arith}
+use Rattle.std.proofs.Common.{◌≡◌, ℕ, ◌+◌, ◌*◌, ◌/◌, ◌<◌, ◌≤◌, min, ◌≢◌, List, map, length, set, unwrap_or, sym, ap, ◌∙◌, inl, inr, mul-le-mul_right, add-mul, arith}
 use native.Mathlib.Nat.{mul-div-le}
 use Rattle.journal_bytes.proofs.Counting.{counted_same, counted_set}
 use Rattle.journal_bytes.proofs.Putting.{Same, count_same, record_same, Only}
@@ -32,9 +32,6 @@ within_bytes bs n s l =
     let a : (s + 1) * size_of bs n ≤ n * size_of bs n = mul-le-mul_right (size_of bs n) (omega arith) in
     let b : n * size_of bs n ≤ min (length bs) most_bytes = mul-div-le (min (length bs) most_bytes) n in
     omega (arith, a, b, add-mul s 1 (size_of bs n))
-
-pub size_small : (bs : List ℕ) (n : ℕ) → size_of bs n ≤ most_bytes
-size_small bs n = omega (arith, div-le_self (min (length bs) most_bytes) n)
 
 behind : (size s t : ℕ) → s < t → s * size + size ≤ t * size
 behind size s t l =

@@ -4,6 +4,7 @@ use Rattle.journal_bytes.specs.Layout.{counts_bytes, capacity_of, count_from, si
 use Rattle.journal.specs.Bytes.{decoded}
 use Rattle.journal.specs.Limits.{most_stations, record_bytes}
 use Rattle.journal.specs.Meaning.{Section}
+use Rattle.std.specs.List.{list_all, range_with_len}
 
 -- The bytes begin with k records.
 abbrev pub all_decode : List ℕ → ℕ → Bool
@@ -23,8 +24,7 @@ accepted bs start size =
 
 -- The k sections from section s on are accepted.
 abbrev pub all_accepted : List ℕ → ℕ → ℕ → ℕ → Bool
-all_accepted bs size s zero = true
-all_accepted bs size s (suc k) = accepted bs (s * size) size && all_accepted bs size (s + 1) k
+all_accepted bs size s k = list_all (λ t. accepted bs (t * size) size) (range_with_len s k)
 
 -- How many stations a journal serves that is made of these bytes for n: all of them or none.
 abbrev pub served_in : List ℕ → ℕ → ℕ

@@ -1,8 +1,10 @@
 //! The calls of a table.
-ghost use Rattle.std.specs.Prelude.{◌≡◌, ◌+◌, ◌-◌, min, [], length, take, IfOk};
+ghost use Rattle.std.specs.Prelude.{◌≡◌, ◌≤◌, [], length, IfOk};
 ghost use Rattle.journal.specs.Limits.{table_records};
-ghost use Rattle.journal.specs.Meaning.{section_of, answer_of};
-ghost use Rattle.journal.specs.Tables.{station_section, table_sections, table_of, added, add_answer, Reads, Found};
+ghost use Rattle.journal.specs.Meaning.{section_of, held, answer_of, room_answer, put_in, force_all, keep_first};
+ghost use Rattle.journal.specs.Tables.{table_of};
+ghost use Rattle.std.specs.List.{slice_get};
+ghost use Rattle.std.specs.Slice.{IsItemAt};
 
 use crate::MAX_STATIONS;
 use crate::calls::Journal;
@@ -14,35 +16,45 @@ use std::alloc::{AllocError, Global};
 impl StationRecords {
     // No records, and room for all that there will be.
     fn new(heap: Global) -> Result<StationRecords, AllocError>
-        ensures { IfOk result (λ s. station_section s ≡ section_of table_records [] []) }
+        ensures { IfOk result (λ s. s ≡ section_of table_records [] []) }
     {
         let records = Vec::with_capacity(heap, TABLE_RECORDS)?;
         Ok(StationRecords { records, stable: 0 })
     }
 
+    // How many records there is room for.
+    fn capacity(&self) -> usize
+        ensures value { result ≡ self.now.capacity }
+        ensures fits { held self.now ≤ result }
+    {
+        self.records.capacity()
+    }
+
+    // How many records are stable.
+    fn stable_len(&self) -> usize
+        ensures { result ≡ length self.now.stable }
+    {
+        self.stable
+    }
+
     // How many records are not stable.
     fn unforced_len(&self) -> usize
-        ensures { result ≡ length self.now.records.items - self.now.stable }
+        ensures { result ≡ length self.now.unforced }
     {
         self.records.len() - self.stable
     }
 
     // The stable record at a place.
     fn read(&self, place: usize) -> Option<Record>
-        ensures { Reads self.now.records.items self.now.stable place result }
+        ensures { result ≡ slice_get self.now.stable place }
     {
-        if place < self.stable {
-            Some(self.records[place])
-        } else {
-            None
-        }
+        self.records[..self.stable].get(place).copied()
     }
 
     // Puts a record at the end, where there is room.
     fn write(&mut self, line: Record) -> Result<(), Refusal>
-        ensures answer { answer_of result ≡ add_answer self.old.records.items }
-        ensures records { self.new.records.items ≡ added line self.old.records.items }
-        ensures stable { self.new.stable ≡ self.old.stable }
+        ensures answer { answer_of result ≡ room_answer self.old }
+        ensures after { self.new ≡ put_in line self.old }
     {
         if self.records.len() == TABLE_RECORDS {
             return Err(Refusal::Full);
@@ -53,27 +65,24 @@ impl StationRecords {
 
     // Makes all records stable.
     fn force(&mut self)
-        ensures records { self.new.records.items ≡ self.old.records.items }
-        ensures stable { self.new.stable ≡ length self.old.records.items }
+        ensures { self.new ≡ force_all self.old }
     {
         self.stable = self.records.len();
     }
 
     // Makes the first `kept` records that are not stable so, and drops the rest.
     fn cut(&mut self, kept: usize)
-        ensures records { self.new.records.items ≡ take self.new.stable self.old.records.items }
-        ensures stable { self.new.stable ≡ self.old.stable + min kept (length self.old.records.items - self.old.stable) }
+        ensures { self.new ≡ keep_first kept self.old }
     {
-        let end = self.stable + kept.min(self.unforced_len());
-        self.records.truncate(end);
-        self.stable = end;
+        self.stable += kept.min(self.unforced_len());
+        self.records.truncate(self.stable);
     }
 }
 
 impl Table {
     /// A table for so many stations, each without records; for more than a journal serves it serves none.
     pub fn new(heap: Global, stations: u8) -> Result<Table, AllocError>
-        ensures { IfOk result (λ t. table_sections t ≡ table_of stations) }
+        ensures { IfOk result (λ t. t ≡ table_of stations) }
     {
         let mut served = Vec::new(heap);
         if stations <= MAX_STATIONS {
@@ -84,82 +93,64 @@ impl Table {
         Ok(Table { stations: served })
     }
 
-    // How many stations there are: few enough for a byte.
-    fn count(&self) -> u8
-        ensures { result ≡ length self.now.stations.items }
-    {
-        self.stations.len() as u8
-    }
-
     // The records of a station, if it is served.
     fn at(&self, station: u8) -> Option<&StationRecords>
-        ensures { Found (table_sections self.now) station result }
+        ensures { IsItemAt self.now station result }
     {
         self.stations.get(usize::from(station))
     }
 }
 
 impl Journal for Table {
-    ghost meaning = { table_sections };
+    ghost meaning = { λ t. t };
 
     ghost lenders = { λ _. [] };
 
+    // They are few enough for a byte.
     fn stations(&self) -> u8 {
-        self.count()
+        self.stations.len() as u8
     }
 
     fn capacity(&self, station: u8) -> usize {
-        match self.at(station) {
-            Some(_) => TABLE_RECORDS,
-            None => 0,
-        }
+        self.at(station).map_or(0, StationRecords::capacity)
     }
 
     fn stable_len(&self, station: u8) -> usize {
-        match self.at(station) {
-            Some(records) => records.stable,
-            None => 0,
-        }
+        self.at(station).map_or(0, StationRecords::stable_len)
     }
 
     fn unforced_len(&self, station: u8) -> usize {
-        match self.at(station) {
-            Some(records) => records.unforced_len(),
-            None => 0,
-        }
+        self.at(station).map_or(0, StationRecords::unforced_len)
     }
 
     fn read(&self, station: u8, place: usize) -> Option<Record> {
-        match self.at(station) {
-            Some(records) => records.read(place),
-            None => None,
-        }
+        self.at(station)?.read(place)
     }
 
+    // Each changing call finds the records itself: a method that lends them would need a clause on the loan.
     fn write(&mut self, station: u8, line: Record) -> Result<(), Refusal> {
-        match self.stations.get_mut(usize::from(station)) {
-            Some(records) => records.write(line),
-            None => Err(Refusal::NotServed),
-        }
+        let records = self
+            .stations
+            .get_mut(usize::from(station))
+            .ok_or(Refusal::NotServed)?;
+        records.write(line)
     }
 
     fn force(&mut self, station: u8) -> Result<(), Refusal> {
-        match self.stations.get_mut(usize::from(station)) {
-            Some(records) => {
-                records.force();
-                Ok(())
-            }
-            None => Err(Refusal::NotServed),
-        }
+        let records = self
+            .stations
+            .get_mut(usize::from(station))
+            .ok_or(Refusal::NotServed)?;
+        records.force();
+        Ok(())
     }
 
     fn cut(&mut self, station: u8, kept: usize) -> Result<(), Refusal> {
-        match self.stations.get_mut(usize::from(station)) {
-            Some(records) => {
-                records.cut(kept);
-                Ok(())
-            }
-            None => Err(Refusal::NotServed),
-        }
+        let records = self
+            .stations
+            .get_mut(usize::from(station))
+            .ok_or(Refusal::NotServed)?;
+        records.cut(kept);
+        Ok(())
     }
 }
