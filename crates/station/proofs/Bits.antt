@@ -25,7 +25,7 @@ module _ (x : StationSet) (s : ℕ) (within : x.bits < 256) where
   outside : 8 ≤ s → holds x s ≡ false
   outside l = let z : x.bits / 2 ^ s ≡ 0 = div-eq_of_lt (omega (arith, pow_mono {i = 8} {j = s} l)) in ap (λ n. n % 2 == 1) z
 
-  pub common : bit_and x.bits (single s) ≡ cond (holds x s) (single s) 0
+  common : bit_and x.bits (single s) ≡ cond (holds x s) (single s) 0
   common =
       elim (cases_lt s 8) [
         | inl l ↦ simp (lt-ltb s 8 l) (inside l (x.bits / 2 ^ s % 2) refl)
