@@ -2,7 +2,7 @@
 use Rattle.std.proofs.Common.{◌≡◌, ℕ, Bool, true, false, cond, not, ◌&&◌, eqb, ◌⊎◌, List, [], ◌∷◌, ◌++◌, take, sym, refl, ap, ◌∙◌, subst, inl, inr, arith}
 use Rattle.std.proofs.lemmas.Bool.Decides.{nat_tests}
 use Rattle.std.proofs.lemmas.Bool.{cases_Bool, cond_both, true≢false, false≢true}
-use Rattle.assurance.proofs.Ideal.{in_set, members, Kind, kI, kC, kA, kE, kp, kc, ka, has, argument_of, Outcome, commit, abort, CoordinatorEntry, none, Open, Collecting, Announcing, SubordinateEntry, idle, Prepared, Station, COMMIT, ABORT, PREPARE, Plan, Run, Presumption, Logging, not_at_all, unforced, forced, written_station, forced_station, cut_station, set_coordinator, set_subordinate, Act, write, force, step, outcome_mail, line, send_each, outcome_kind, await, logged, end_acts, force_if, ack_if, restarted_station}
+use Rattle.assurance.proofs.Ideal.{in_set, members, Kind, kI, kC, kA, kE, kp, kc, ka, has, argument_of, Outcome, commit, abort, CoordinatorEntry, none, Open, Collecting, Announcing, SubordinateEntry, idle, Prepared, Station, COMMIT, ABORT, PREPARE, Plan, Run, Presumption, Logging, not_at_all, unforced, forced, written_station, forced_station, cut_station, set_coordinator, set_subordinate, Act, write, force, Turn, to_subordinate, step, enforce_acts, outcome_mail, line, send_each, outcome_kind, await, logged, end_acts, force_if, ack_if, restarted_station}
 use Rattle.assurance.proofs.Lasting.{has_append, No, Past, Inactive, Idle, world, CoLegal}
 use Rattle.assurance.proofs.Sets.{mem_zero}
 use Rattle.assurance.proofs.Claims.{Laws}
@@ -216,11 +216,21 @@ module _ (π : Presumption) (𝓛 : Laws π) where
   abbrev pub Tidy : Run → Type 0
   Tidy st = (s : ℕ) → TidyS π st.plan s (st.station s)
 
+  -- a step keeps it where its acts and its entry change do
+  tidy_step : (s f k : ℕ) (l : List Act) (tn : Turn) (st : Run) → TidyS π st.plan s (turned_station tn (locals l (st.station s))) → Tidy st → Tidy (step s l tn f k st)
+  tidy_step s f k l tn st d h =
+      subst (λ (P : ℕ → Plan). (x : ℕ) → TidyS π P x ((step s l tn f k st).station x)) (sym (plan_step s l tn f k st).0)
+      (step_at (TidyS π st.plan) s l tn f k st (tidy_cut π st.plan s k (locals (take f l) (st.station s))) d h)
+
+  -- carrying an outcome out keeps it, under every fuse
+  pub tidy_enforced : (o : Outcome) (r s c f k : ℕ) (st : Run) → Tidy st → (st.station s).power ≡ true → Tidy (step s (enforce_acts π o r s c) (to_subordinate r idle) f k st)
+  tidy_enforced commit r s c f k st h on = tidy_step s f k (enforce_acts π commit r s c) (to_subordinate r idle) st (enforced π 𝓛 st.plan s commit r c (π.forces commit s) (π.acks commit s) c (st.station s) refl on (h s)) h
+  tidy_enforced abort r s c f k st h on = tidy_step s f k (enforce_acts π abort r s c) (to_subordinate r idle) st (enforced π 𝓛 st.plan s abort r c (π.forces abort s) (π.acks abort s) c (st.station s) refl on (h s)) h
+
   pub tidy_did : (st : Run) (r s t f k : ℕ) (Q : Rule → Type 0) (v : Run) → (st.station s).power ≡ true → SafeSt π st → Did π st r s t f k Q v → Tidy st → Tidy v
   tidy_did st r s t f k Q v on safe d h =
       by_did π Tidy st r s t f k Q v d h
-      (λ u w _. subst (λ (P : ℕ → Plan). (x : ℕ) → TidyS π P x ((step s (acts_of π u r s t) (turn_of π u r) f k st).station x)) (sym (plan_step s (acts_of π u r s t) (turn_of π u r) f k st).0)
-      (step_at (TidyS π st.plan) s (acts_of π u r s t) (turn_of π u r) f k st (tidy_cut π st.plan s k (locals (take f (acts_of π u r s t)) (st.station s))) (tidy_rule π 𝓛 st.plan s u r t (st.station s) w on whole (h s)) h))
+      (λ u w _. tidy_step s f k (acts_of π u r s t) (turn_of π u r) st (tidy_rule π 𝓛 st.plan s u r t (st.station s) w on whole (h s)) h)
     where
       whole : (a z : ℕ) → ((st.station s).coordinators r ≡ Open a) ⊎ ((st.station s).coordinators r ≡ Collecting a z) → a ≡ (st.plan r).names
       whole a z (inl e) = (subst (λ w. CoLegal π (world st) s r w) e (safe.cos s r)).2
