@@ -59,7 +59,8 @@ impl<X: Journal, Y: Journal> Join<X, Y> {
     }
 }
 
-// The two journals are of two types, so each call names both: closures for them would name both too, and need a contract each.
+// The two journals are of two types, so each call names both.
+// Closures for them would name both too, and need a contract each.
 impl<X: Journal, Y: Journal> Journal for Join<X, Y> {
     ghost meaning = { λ j. together (X.meaning j.0) (Y.meaning j.1) };
 
