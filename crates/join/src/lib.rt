@@ -24,7 +24,7 @@ impl<X, Y> Model for Join<X, Y> {
 }
 
 // Which journal of a join has a station, and under what number.
-#[derive(Clone, Copy)]
+#[derive(Clone, Copy, Debug, PartialEq, Eq)]
 enum Part {
     First(u8),
     Second(u8),
@@ -53,17 +53,18 @@ impl<X: Journal, Y: Journal> Join<X, Y> {
 
     // The journal that has the station.
     fn part(&self, station: u8) -> Option<Part>
-        ensures { Lies (X.Journal.meaning self.now.0) (Y.Journal.meaning self.now.1) station result }
+        ensures { Lies (X.meaning self.now.0) (Y.meaning self.now.1) station result }
     {
         part_of(self.first.stations(), station)
     }
 }
 
-// The two journals are of two types, so each call names both: closures for them would be as long.
+// The two journals are of two types, so each call names both.
+// Closures for them would name both too, and need a contract each.
 impl<X: Journal, Y: Journal> Journal for Join<X, Y> {
-    ghost meaning = { λ j. together (X.Journal.meaning j.0) (Y.Journal.meaning j.1) };
+    ghost meaning = { λ j. together (X.meaning j.0) (Y.meaning j.1) };
 
-    ghost lenders = { λ j. X.Journal.lenders j.0 ++ Y.Journal.lenders j.1 };
+    ghost lenders = { λ j. X.lenders j.0 ++ Y.lenders j.1 };
 
     fn stations(&self) -> u8 {
         (self.first.stations() + self.second.stations()).min(MAX_STATIONS)

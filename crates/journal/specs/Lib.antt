@@ -3,3 +3,4 @@ pub mod Records
 pub mod Meaning
 pub mod Bytes
 pub mod Tables
+pub mod Lending

@@ -6,6 +6,7 @@ use std::marker::Model;
 pub const TABLE_RECORDS: usize = 160;
 
 /// One station's records, in room that is reserved for all of them: the first `stable` are stable.
+/// One list with a mark and not two lists, so a force moves no record.
 #[derive(Drop)]
 struct StationRecords {
     records: Vec<Record>,

@@ -74,12 +74,13 @@ module _ (bs : List ℕ) (n s : ℕ) where
         kept_room : cs ≡ bytes_kept m bs n s
         kept_room = let k = f.counts in rw (lt-ltb s n f.served) (cc)
 
+        -- Whichever records are kept, the bytes stay a journal's.
+        pub kept_again : m ≤ c.stable + c.unforced → served_in bs n ≡ n → served_in cs n ≡ n
+        kept_again few h = let k = f.counts in rw kept_room (kept_served bs n s h m (omega arith))
+
         module _ (all : m ≡ c.stable + c.unforced) where
           pub forced_bytes : cs ≡ bytes_forced bs n s
           forced_bytes = let k = f.counts in cc (kept_room)
-
-          pub forced_again : served_in bs n ≡ n → served_in cs n ≡ n
-          forced_again h = let k = f.counts in rw kept_room (kept_served bs n s h m (omega arith))
 
           pub forced_after : sections cs n ≡ forced (sections bs n) s
           forced_after = rw forced_bytes (forced_means bs n s)
@@ -87,9 +88,6 @@ module _ (bs : List ℕ) (n s : ℕ) where
         module _ (k : ℕ) (few : m ≡ c.stable + min k c.unforced) where
           pub cut_bytes : cs ≡ bytes_cut k bs n s
           cut_bytes = let d = f.counts in cc (kept_room)
-
-          pub cut_again : served_in bs n ≡ n → served_in cs n ≡ n
-          cut_again h = let d = f.counts in rw kept_room (kept_served bs n s h m (omega arith))
 
           pub cut_after : sections cs n ≡ cut_to k (sections bs n) s
           cut_after = rw cut_bytes (cut_means bs n s k)

@@ -15,7 +15,8 @@ pub(crate) const MOST_BYTES: usize = 65536;
 pub(crate) const COUNTS_BYTES: usize = 4;
 
 // Where a section starts, how many records it has room for, and how many it holds.
-#[derive(Clone, Copy)]
+// Places in all the bytes and no slice of the section, since the contracts speak of all the bytes.
+#[derive(Clone, Copy, Debug, PartialEq, Eq)]
 pub(crate) struct Counts {
     pub(crate) start: usize,
     pub(crate) capacity: usize,
@@ -81,7 +82,7 @@ pub(crate) fn count_at(bytes: &[u8], at: usize) -> usize
     usize::from(u16::from_be_bytes([bytes[at], bytes[at + 1]]))
 }
 
-// Puts a number, which two bytes hold, into them, the high one first.
+// Puts a number below 65536 into two bytes, the high one first.
 pub(crate) fn put_count(bytes: &mut [u8], at: usize, count: usize)
     requires within { at + 2 ≤ length bytes.old }
     requires few { count < most_bytes }

@@ -28,6 +28,7 @@ fn all_decode(bytes: &[u8], records: usize) -> bool
 }
 
 // How many records a section counts.
+// No Counts yet: these are made of accepted sections alone.
 fn counted(bytes: &[u8], start: usize) -> usize
     requires { start + counts_bytes ≤ length bytes.now }
     ensures { result ≡ counted bytes.now start }
@@ -50,6 +51,7 @@ fn accepted(bytes: &[u8], stations: u8, station: u8) -> bool
 }
 
 // Whether all sections are accepted.
+// By number and not by chunks_exact, which takes no size 0: sections may be without bytes.
 fn all_accepted(bytes: &[u8], stations: u8) -> bool
     ensures { result ≡ all_accepted bytes.now (size_of bytes.now stations) 0 stations }
 {

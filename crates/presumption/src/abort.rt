@@ -27,6 +27,7 @@ impl Presumption for PresumedAbort {
     }
 
     // What is acknowledged is forced, and nothing else.
+    // No default of the trait, which would have to hold of every presumption.
     fn forces(&self, outcome: Outcome) -> bool {
         self.acknowledges(outcome)
     }

@@ -1,5 +1,5 @@
 //! The calls of a table.
-ghost use Rattle.std.specs.Prelude.{◌≡◌, ◌≤◌, [], length, IfOk};
+ghost use Rattle.std.specs.Prelude.{◌≡◌, ◌≤◌, [], length, replicate, vec_items, IfOk};
 ghost use Rattle.journal.specs.Limits.{table_records};
 ghost use Rattle.journal.specs.Meaning.{section_of, held, answer_of, room_answer, put_in, force_all, keep_first};
 ghost use Rattle.journal.specs.Tables.{table_of};
@@ -20,6 +20,15 @@ impl StationRecords {
     {
         let records = Vec::with_capacity(heap, TABLE_RECORDS)?;
         Ok(StationRecords { records, stable: 0 })
+    }
+
+    // The same for each of so many stations.
+    fn of_each(heap: Global, stations: u8) -> Result<Vec<StationRecords>, AllocError>
+        ensures { IfOk result (λ v. vec_items v ≡ replicate stations (section_of table_records [] [])) }
+    {
+        (0..stations)
+            .map(|_station| StationRecords::new(heap))
+            .try_collect(heap)
     }
 
     // How many records there is room for.
@@ -80,17 +89,21 @@ impl StationRecords {
 }
 
 impl Table {
+    ghost use Rattle.std.specs.Borrow.{sem};
+    ghost use Rattle.std.specs.List.{IsItemAtMut};
+    ghost use Rattle.journal.specs.Lending.{LendsSection};
+
     /// A table for so many stations, each without records; for more than a journal serves it serves none.
     pub fn new(heap: Global, stations: u8) -> Result<Table, AllocError>
         ensures { IfOk result (λ t. t ≡ table_of stations) }
     {
-        let mut served = Vec::new(heap);
-        if stations <= MAX_STATIONS {
-            for _station in 0..stations {
-                served.push(StationRecords::new(heap)?)?;
-            }
-        }
-        Ok(Table { stations: served })
+        let served = if stations <= MAX_STATIONS {
+            stations
+        } else {
+            0
+        };
+        let stations = StationRecords::of_each(heap, served)?;
+        Ok(Table { stations })
     }
 
     // The records of a station, if it is served.
@@ -98,6 +111,14 @@ impl Table {
         ensures { IsItemAt self.now station result }
     {
         self.stations.get(usize::from(station))
+    }
+
+    // The same, to change them.
+    fn at_mut(&mut self, station: u8) -> Option<&mut StationRecords>
+        ensures* lends { sem 𝓛 (LendsSection self.entry station result) }
+        ensures item { IsItemAtMut self.old station result }
+    {
+        self.stations.get_mut(usize::from(station))
     }
 }
 
@@ -127,29 +148,19 @@ impl Journal for Table {
         self.at(station)?.read(place)
     }
 
-    // Each changing call finds the records itself: a method that lends them would need a clause on the loan.
     fn write(&mut self, station: u8, line: Record) -> Result<(), Refusal> {
-        let records = self
-            .stations
-            .get_mut(usize::from(station))
-            .ok_or(Refusal::NotServed)?;
+        let records = self.at_mut(station).ok_or(Refusal::NotServed)?;
         records.write(line)
     }
 
     fn force(&mut self, station: u8) -> Result<(), Refusal> {
-        let records = self
-            .stations
-            .get_mut(usize::from(station))
-            .ok_or(Refusal::NotServed)?;
+        let records = self.at_mut(station).ok_or(Refusal::NotServed)?;
         records.force();
         Ok(())
     }
 
     fn cut(&mut self, station: u8, kept: usize) -> Result<(), Refusal> {
-        let records = self
-            .stations
-            .get_mut(usize::from(station))
-            .ok_or(Refusal::NotServed)?;
+        let records = self.at_mut(station).ok_or(Refusal::NotServed)?;
         records.cut(kept);
         Ok(())
     }
