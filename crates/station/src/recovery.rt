@@ -11,7 +11,8 @@ use journal::records::{Kind, Record};
 use presumption::Presumption;
 use presumption::outcome::Outcome;
 
-// Journal, station and revision stay side by side: the model of a struct cannot read what its generic journal means.
+// Journal, station and revision stay side by side: a struct that borrows the journal makes the file longer, and of what
+// the closures below answer from it nothing is inferred.
 
 // The stable record at a place, if it is of that kind and for that revision.
 fn read_of<J: Journal>(
