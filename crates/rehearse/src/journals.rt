@@ -12,7 +12,7 @@ use presumption::commit::PresumedCommit;
 use run::run::LEAST_CAPACITY;
 use std::io;
 
-/// A section takes so many bytes for the records of a run: four of counts, then the records.
+/// A section for the records that a run needs takes so many bytes: four of counts, then the records.
 const SECTION: usize = 4 + LEAST_CAPACITY * RECORD_BYTES;
 
 /// The bytes of three sections. A length of an array is a name or a number, so the product has a name.
