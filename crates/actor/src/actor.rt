@@ -23,6 +23,7 @@ use std::alloc::{AllocError, Global};
 
 /// A run's journal, post and log.
 // No `Model`: `journal()` names the journal itself, and the view would be these same three fields.
+// Of the other modules acts.rt alone uses the fields, to post, write and mark: perform.rt has an `Acting`, which hides them.
 #[derive(Drop)]
 pub struct Actor<J> {
     pub(crate) journal: J,

@@ -14,6 +14,8 @@ use station::messages::{Message, MessageKind};
 use station::sets::StationSet;
 use station::subordinate::GivenVote;
 
+// No type can name a station: a token has it as a field, and what spends the token asks that it is the one that acts.
+
 /// A record was written that must be forced. Not `Drop`: only a force or a power cut spends it.
 pub(crate) struct Debt {
     station: u8,
@@ -142,7 +144,7 @@ impl<'a, J: Journal, P> Acting<'a, J, P> {
         Ok(())
     }
 
-    // Posts one message about the revision.
+    // Posts one message of any kind about the revision: the callers below say what each kind costs.
     fn put(&mut self, kind: MessageKind, receiver: u8) -> Result<(), PowerCut>
         ensures { Changes J.meaning
             (after (post (letter kind self.old.revision self.old.station receiver)))
@@ -160,7 +162,7 @@ impl<'a, J: Journal, P> Acting<'a, J, P> {
 }
 
 impl<J: Journal, P> Acting<'_, J, P> {
-    // Posts to each station of a set, ascending: an act for each.
+    // Posts messages of any kind to each station of a set, ascending: an act for each. What the kind costs, callers say.
     #[tactic(auto, using(crate::proofs::Performed::dark_performed))]
     fn put_each(&mut self, kind: MessageKind, set: StationSet) -> Result<(), PowerCut>
         ensures { Changes J.meaning
@@ -194,14 +196,15 @@ impl<J: Journal, P> Acting<'_, J, P> {
     }
 
     /// Posts YES, which spends the receipt for the prepared record.
-    pub(crate) fn post_yes(&mut self, _receipt: Receipt, receiver: u8) -> Result<(), PowerCut>
-        requires here { _receipt.station ≡ self.old.station }
-        requires prepared { _receipt.paid.kind ≡ Kind.Prepared }
-        requires about { _receipt.paid.revision ≡ self.old.revision }
+    pub(crate) fn post_yes(&mut self, receipt: Receipt, receiver: u8) -> Result<(), PowerCut>
+        requires here { receipt.station ≡ self.old.station }
+        requires prepared { receipt.paid.kind ≡ Kind.Prepared }
+        requires about { receipt.paid.revision ≡ self.old.revision }
         ensures { Changes J.meaning
             (after (post (letter MessageKind.Yes self.old.revision self.old.station receiver)))
             self.old result self.new }
     {
+        drop(receipt);
         self.put(MessageKind::Yes, receiver)
     }
 
@@ -215,18 +218,15 @@ impl<J: Journal, P> Acting<'_, J, P> {
     }
 
     /// Posts a decision's COMMITs, which spend the receipt for the commit record.
-    pub(crate) fn post_commits(
-        &mut self,
-        _receipt: Receipt,
-        set: StationSet,
-    ) -> Result<(), PowerCut>
-        requires here { _receipt.station ≡ self.old.station }
-        requires commit { _receipt.paid.kind ≡ Kind.Commit }
-        requires about { _receipt.paid.revision ≡ self.old.revision }
+    pub(crate) fn post_commits(&mut self, receipt: Receipt, set: StationSet) -> Result<(), PowerCut>
+        requires here { receipt.station ≡ self.old.station }
+        requires commit { receipt.paid.kind ≡ Kind.Commit }
+        requires about { receipt.paid.revision ≡ self.old.revision }
         ensures { Changes J.meaning
             (performed (post_each MessageKind.Commit self.old.revision self.old.station set))
             self.old result self.new }
     {
+        drop(receipt);
         self.put_each(MessageKind::Commit, set)
     }
 

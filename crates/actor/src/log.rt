@@ -32,12 +32,13 @@ impl Row {
 }
 
 /// A row for each revision opened, in the order of their numbers.
+/// The room is reserved at once, so no act can want memory; an ArrayVec would need a blank row.
 #[derive(Drop)]
 pub struct Log {
     rows: Vec<Row>,
 }
 
-// A clause sees the rows.
+// A clause sees the rows, and not the invariant: callers know that they are few by the clause of `len`.
 impl Model for Log {
     ghost use Rattle.std.specs.Prelude.{◌≤◌, List, length, vec_capacity};
     ghost use Rattle.station.specs.Limits.{most_revisions};
@@ -52,6 +53,7 @@ impl Model for Log {
 }
 
 impl Log {
+    /// No revision is opened yet.
     pub fn new(heap: Global) -> Result<Log, AllocError>
         ensures { IfOk result (λ x. x ≡ []) }
     {
@@ -67,6 +69,7 @@ impl Log {
         self.rows.len()
     }
 
+    /// The revision's row, if it was opened.
     pub fn row(&self, revision: u16) -> Option<Row>
         ensures { result ≡ slice_get self.now revision }
     {

@@ -10,12 +10,14 @@ use std::marker::Model;
 /// The most messages that can wait.
 pub const MAX_WAITING: usize = 64;
 
+/// The messages that wait, in posting order.
+/// The room is reserved at once, so no act can want memory; an ArrayVec would need a blank message.
 #[derive(Drop)]
 pub struct Post {
     messages: Vec<Message>,
 }
 
-// A clause sees the messages that wait.
+// A clause sees the messages that wait, and not the invariant: callers know that they are few by the clause of `len`.
 impl Model for Post {
     ghost use Rattle.std.specs.Prelude.{◌≤◌, List, length, vec_capacity};
     ghost use Rattle.actor.specs.Post.{most_waiting};
@@ -30,6 +32,7 @@ impl Model for Post {
 }
 
 impl Post {
+    /// No message waits yet.
     pub fn new(heap: Global) -> Result<Post, AllocError>
         ensures { IfOk result (λ x. x ≡ []) }
     {

@@ -5,15 +5,17 @@ use crate::rehearsal::{Fate, play};
 use crate::scenarios::OUTCOME_LOST;
 use crate::script::STATIONS;
 use join::Join;
+use journal::records::RECORD_BYTES;
 use journal::table::Table;
 use journal_bytes::ByteJournal;
 use presumption::commit::PresumedCommit;
+use run::run::LEAST_CAPACITY;
 use std::io;
 
-/// A section for 160 records takes so many bytes.
-const SECTION: usize = 644;
+/// A section for the records that a run needs takes so many bytes: four of counts, then the records.
+const SECTION: usize = 4 + LEAST_CAPACITY * RECORD_BYTES;
 
-/// The bytes of three sections.
+/// The bytes of three sections. A length of an array is a name or a number, so the product has a name.
 const THREE_SECTIONS: usize = 3 * SECTION;
 
 /// The bytes of two sections.

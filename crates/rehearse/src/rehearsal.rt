@@ -23,7 +23,7 @@ pub struct Rehearsal<'a, R, J: Journal, P: Presumption> {
 }
 
 /// What became of the revision: where it is installed, and where dropped.
-#[derive(Clone, Copy, PartialEq, Eq)]
+#[derive(Clone, Copy, Debug, PartialEq, Eq)]
 pub struct Fate {
     pub installed: StationSet,
     pub dropped: StationSet,

@@ -12,7 +12,7 @@ pub const COORDINATOR: u8 = 0;
 pub const REVISION: u16 = 0;
 
 /// A call of the engine.
-#[derive(Clone, Copy)]
+#[derive(Clone, Copy, Debug, PartialEq, Eq)]
 pub enum Call {
     /// The revision goes to these stations.
     Open { stations: &'static [u8] },
@@ -27,7 +27,7 @@ pub enum Call {
 }
 
 /// What to do next.
-#[derive(Clone, Copy)]
+#[derive(Clone, Copy, Debug, PartialEq, Eq)]
 pub enum Cue {
     Make(Call),
     /// Delivers the first message, and so on until none waits.
@@ -37,7 +37,7 @@ pub enum Cue {
 }
 
 /// A run to rehearse.
-#[derive(Clone, Copy)]
+#[derive(Clone, Copy, Debug, PartialEq, Eq)]
 pub struct Scenario {
     pub title: &'static str,
     pub cues: &'static [Cue],

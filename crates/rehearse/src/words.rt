@@ -12,11 +12,12 @@ use station::subordinate::SubordinateEntry;
 use std::fmt;
 
 /// A value of the engine, to be printed.
-#[derive(Clone, Copy)]
+#[derive(Clone, Copy, Debug, PartialEq, Eq)]
 pub struct Shown<T>(pub T);
 
 /// What a call did that was not refused.
-#[derive(Clone, Copy)]
+/// A copy of less than assurance's Value: a rehearsal needs nothing of that crate, whose calls no constant can hold.
+#[derive(Clone, Copy, Debug, PartialEq, Eq)]
 pub enum Done {
     /// It opened this revision.
     Revision(u16),
@@ -148,7 +149,7 @@ impl fmt::Display for Shown<CoordinatorEntry> {
 }
 
 // Where a revision is marked.
-#[derive(Clone, Copy)]
+#[derive(Clone, Copy, Debug, PartialEq, Eq)]
 struct Places(StationSet);
 
 impl fmt::Display for Places {

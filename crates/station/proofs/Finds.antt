@@ -7,7 +7,7 @@ use Rattle.std.proofs.iter.runs.Sources.{range_runs}
 use denote.Param.Members.{Mut, Called}
 use Rattle.journal.specs.declared.records.Kind.{Kind}
 use Rattle.journal.specs.declared.records.Record.{Record}
-use Rattle.station.specs.Recovery.{is_of, kept, first_record}
+use Rattle.station.specs.Recovery.{is_of, matching, first_record}
 
 passes_on : (b : Bool) (x : Record) (rest : Option Record) → cond b (Some x) None ≡ None → rest ≡ cond b (Some x) rest
 passes_on true x rest e = cc
@@ -18,12 +18,12 @@ stops true x y rest e = sym e
 stops false x y rest e = cc
 
 module _ (k : Kind) (r : ℕ) where
-  first_none : (xs : List Record) → ((j : ℕ) → j < length xs → kept k r (slice_get xs j) ≡ None) → None ≡ first_record k r xs
+  first_none : (xs : List Record) → ((j : ℕ) → j < length xs → matching k r (slice_get xs j) ≡ None) → None ≡ first_record k r xs
   unfolding first_record
   first_none [] h = refl
   first_none (x ∷ xs) h = first_none xs (λ j l. h (suc j) (omega arith)) ∙ passes_on (is_of k r x) x (first_record k r xs) (h 0 (omega arith))
 
-  first_at : (xs : List Record) (i : ℕ) (y : Record) → i < length xs → kept k r (slice_get xs i) ≡ Some y → ((j : ℕ) → j < i → kept k r (slice_get xs j) ≡ None) → Some y ≡ first_record k r xs
+  first_at : (xs : List Record) (i : ℕ) (y : Record) → i < length xs → matching k r (slice_get xs i) ≡ Some y → ((j : ℕ) → j < i → matching k r (slice_get xs j) ≡ None) → Some y ≡ first_record k r xs
   unfolding first_record
   first_at [] i y l e n = absurd (omega arith)
   first_at (x ∷ xs) zero y l e n = stops (is_of k r x) x y (first_record k r xs) e
@@ -31,7 +31,7 @@ module _ (k : Kind) (r : ℕ) where
 
   -- a run of reads over the places of a list, by a closure that keeps what is wanted
   module _ (xs : List Record) (n : ℕ) (long : n ≡ length xs) {F : Type 0} (g : Mut F (ℕ × Unit {0}) (Option Record)) (f : F)
-      (calls : (i : ℕ) (o : Option Record) (q : F) → Called g f (i, tt) o q → (q ≡ f) × (o ≡ kept k r (slice_get xs i)))
+      (calls : (i : ℕ) (o : Option Record) (q : F) → Called g f (i, tt) o q → (q ≡ f) × (o ≡ matching k r (slice_get xs i)))
       (p : Run nat_range_steps) (start : p.from ≡ record { start = 0; end = n }) where
     keeps : CallKeepsClosure g f
     keeps a o q c = (calls a.0 o q c).0

@@ -26,9 +26,9 @@ abbrev pub is_of : Kind → ℕ → Record → Bool
 is_of k r x = letter_of x.kind == letter_of k && x.revision == r
 
 -- A record that may be there, if it is of that kind and for that revision.
-abbrev pub kept : Kind → ℕ → Option Record → Option Record
-kept k r None = None
-kept k r (Some x) = cond (is_of k r x) (Some x) None
+abbrev pub matching : Kind → ℕ → Option Record → Option Record
+matching k r None = None
+matching k r (Some x) = cond (is_of k r x) (Some x) None
 
 -- The first record of a kind for a revision, if there is one.
 unfoldable pub first_record : Kind → ℕ → List Record → Option Record

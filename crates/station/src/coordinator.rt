@@ -12,6 +12,7 @@ use presumption::outcome::Outcome;
 /// What a coordinator remembers of a revision.
 #[derive(Clone, Copy, Debug, PartialEq, Eq)]
 pub enum CoordinatorEntry {
+    /// Nothing. No Option around the entry: the machine matches it beside the message and changes it in place.
     None,
     Open {
         set: StationSet,

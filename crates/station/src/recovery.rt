@@ -1,7 +1,7 @@
 //! Recovery: what the stable records of a station say of a revision.
 ghost use Rattle.std.specs.Prelude.{◌≡◌, None};
 ghost use Rattle.journal.specs.Meaning.{record_at};
-ghost use Rattle.station.specs.Recovery.{kept, stable_records, first_record, told_by, decision, resumed_subordinate, resumed_coordinator};
+ghost use Rattle.station.specs.Recovery.{matching, stable_records, first_record, told_by, decision, resumed_subordinate, resumed_coordinator};
 
 use crate::coordinator::{CoordinatorEntry, announcing_to};
 use crate::sets::StationSet;
@@ -11,7 +11,8 @@ use journal::records::{Kind, Record};
 use presumption::Presumption;
 use presumption::outcome::Outcome;
 
-// Journal, station and revision stay side by side: the model of a struct cannot read what its generic journal means.
+// Journal, station and revision stay side by side: a struct that borrows the journal makes the file longer, and of what
+// the closures below answer from it nothing is inferred.
 
 // The stable record at a place, if it is of that kind and for that revision.
 fn read_of<J: Journal>(
@@ -21,7 +22,7 @@ fn read_of<J: Journal>(
     kind: Kind,
     revision: u16,
 ) -> Option<Record>
-    ensures { result ≡ kept kind revision (record_at (J.meaning journal.now) station place) }
+    ensures { result ≡ matching kind revision (record_at (J.meaning journal.now) station place) }
 {
     journal
         .read(station, place)

@@ -10,12 +10,14 @@ use presumption::outcome::Outcome;
 /// What a subordinate remembers of a revision. Prepared means in doubt.
 #[derive(Clone, Copy, Debug, PartialEq, Eq)]
 pub enum SubordinateEntry {
+    /// Nothing. No Option around the entry: the machine matches it beside the message and changes it in place.
     None,
     Active { coordinator: u8 },
     Prepared { coordinator: u8 },
 }
 
 /// A vote that was given already: only this module makes one, from an entry that is Prepared.
+/// Its coordinator is never read: YES goes to whoever asked again.
 #[derive(Clone, Copy, Debug, PartialEq, Eq)]
 pub struct GivenVote {
     coordinator: u8,
@@ -26,6 +28,7 @@ impl SubordinateEntry {
     pub fn hear(&mut self, kind: MessageKind, sender: u8) -> Step
         ensures { Makes (subordinate_move self.old kind sender) result self.new }
     {
+        // Each pair of entry and message has an arm of its own, also where two arms differ in the outcome alone.
         match (*self, kind) {
             (SubordinateEntry::Active { coordinator }, MessageKind::Prepare) => {
                 *self = SubordinateEntry::Prepared { coordinator };

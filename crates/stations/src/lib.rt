@@ -3,8 +3,8 @@
 
 ghost use Rattle.std.specs.Prelude.{◌≡◌, true, false, not, ◌&&◌, length, set, replicate, IfOk, nat_lt};
 ghost use Rattle.std.specs.List.{range_with_len};
-ghost use Rattle.journal.specs.Meaning.{section};
 ghost use Rattle.stations.specs.Stations.{blank, rebuilt, power_at, entries_at, coordinator_at, subordinate_at, turn_station, turn_entry, all_power, activated};
+ghost use Rattle.station.specs.Recovery.{stable_records};
 ghost use Rattle.station.specs.Sets.{members, empty, below};
 
 use journal::calls::Journal;
@@ -35,6 +35,7 @@ const NO_ENTRIES: Entries = Entries {
 };
 
 /// One station: whether it has power, and its entries by revision.
+// No Option of the entries: those of a dark station are asked for too, and an entry may be put without asking for power.
 #[derive(Clone, Copy, Debug, PartialEq, Eq)]
 pub struct Station {
     power: bool,
@@ -93,7 +94,7 @@ impl Station {
 
     /// A station with power, as its stable records rebuild it.
     pub fn rebuild<J: Journal, P: Presumption>(journal: &J, presumption: &P, station: u8) -> Station
-        ensures { result ≡ rebuilt (P.Presumption.answers presumption.now) (section (J.Journal.meaning journal.now) station).stable }
+        ensures { result ≡ rebuilt (P.answers presumption.now) (stable_records (J.meaning journal.now) station) }
     {
         Station {
             power: true,
@@ -109,6 +110,7 @@ impl Station {
     }
 }
 
+// Station and revision stay two numbers: the calls of a run have them so, and some methods take the station alone.
 impl Stations {
     /// So many stations with power and without entries.
     pub fn new(heap: Global, count: u8) -> Result<Stations, AllocError>

@@ -8,10 +8,11 @@ use presumption::Presumption;
 use std::ops::Range;
 
 /// One station and the post.
-#[derive(Clone, Copy)]
+#[derive(Clone, Copy, Debug, PartialEq, Eq)]
 pub struct Scene {
     pub station: u8,
     power: bool,
+    // Two flags, as the row has two sets: that no station is in both is proved of runs and not seen in the type.
     installed: bool,
     dropped: bool,
     stable: usize,
@@ -20,7 +21,7 @@ pub struct Scene {
 }
 
 /// Two scenes at one station, and a call between them.
-#[derive(Clone, Copy)]
+#[derive(Clone, Copy, Debug, PartialEq, Eq)]
 pub struct Change {
     pub before: Scene,
     pub after: Scene,
