@@ -4,7 +4,7 @@ ghost use Rattle.run.specs.Answers.{answer_of, plain_answer};
 ghost use Rattle.run.specs.Calls.{Asks, fit?, there?, opened?, power?, opened_questions, coordinator_questions, subordinate_questions, message_questions, coordinator_of, message_at, heard, open_call, close_call, give_up_call, chase_call, reject_call, inquire_call, deliver_call, lose_call, cut_call, restart_call};
 ghost use Rattle.run.specs.Runs.{LeadsTo};
 ghost use Rattle.actor.specs.Log.{row_at};
-ghost use Rattle.journal.specs.Meaning.{section};
+ghost use Rattle.station.specs.Recovery.{stable_records};
 ghost use Rattle.stations.specs.Stations.{rebuilt};
 
 use crate::refusals::Refusal;
@@ -80,7 +80,7 @@ impl<J: Journal, P: Presumption> Run<J, P> {
         Ok(coordinator)
     }
 
-    // Refuses where the station has no power or the revision was not opened.
+    // Asks all that a subordinate's call asks: fit, a station, a revision that was opened, power.
     fn check_subordinate(&self, revision: u16, station: u8) -> Result<(), Refusal>
         ensures { Asks (subordinate_questions revision station self.now.state) result self.now.state }
     {
@@ -172,6 +172,7 @@ impl<J: Journal, P: Presumption> Run<J, P> {
     {
         let station = message.receiver;
         let revision = message.revision;
+        // Written out: the entries are of two types, and only the coordinator's asks the presumption.
         if message.kind.is_for_subordinate() {
             let mut entry = self.stations.subordinate(station, revision);
             let step = entry.hear(message.kind, message.sender);
@@ -223,7 +224,7 @@ impl<J: Journal, P: Presumption> Run<J, P> {
     // The station as its stable records rebuild it.
     fn rebuild(&self, station: u8) -> Station
         ensures { result
-            ≡ rebuilt (P.answers self.now.presumption) (section self.now.state.store.journal station).stable }
+            ≡ rebuilt (P.answers self.now.presumption) (stable_records self.now.state.store.journal station) }
     {
         Station::rebuild(self.actor.journal(), &self.presumption, station)
     }

@@ -54,6 +54,7 @@ impl<J: Journal, P: Presumption> Run<J, P> {
         ensures bounded { result ≤ 1152 }
     {
         let mut deliveries = 0;
+        // A delivery may post more, so there is no list of messages to walk.
         while self.actor.waiting() > 0 {
             let _ = self.deliver(0, false, Fuse::LASTING);
             deliveries += 1;
@@ -117,6 +118,7 @@ impl<J: Journal, P: Presumption> Run<J, P> {
         // `as` is proved to lose nothing here, where `try_from` would bring in a failure.
         let revisions = self.actor.opened() as u16;
         let mut deliveries = self.drain();
+        // The calls take a revision by its number, and change the run meanwhile.
         for revision in 0..revisions {
             deliveries += self.finish(revision);
         }
