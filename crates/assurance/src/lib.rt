@@ -18,7 +18,7 @@ use std::alloc::{AllocError, Global};
 
 /// A run that was played, and what each call answered.
 #[derive(Drop)]
-pub struct Played<J: Journal, P: Presumption> {
+pub struct Played<J: Journal, P> {
     pub run: Run<J, P>,
     pub answers: Vec<Result<Value, Refusal>>,
 }
