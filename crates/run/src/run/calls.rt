@@ -1,10 +1,12 @@
 //! The calls of a run. Each asks its questions in their order, and the first no refuses it.
 ghost use Rattle.std.specs.Prelude.{◌≡◌, true, [], ◌∷◌, IfOk, OnOk};
 ghost use Rattle.run.specs.Answers.{answer_of, plain_answer};
-ghost use Rattle.run.specs.Calls.{Asks, fit?, there?, opened?, power?, opened_questions, coordinator_questions, subordinate_questions, message_questions, coordinator_of, message_at, heard, open_call, close_call, give_up_call, chase_call, reject_call, inquire_call, deliver_call, lose_call, cut_call, restart_call};
+ghost use Rattle.run.specs.Calls.{Asks, fit?, there?, opened?, power?, opened_questions, coordinator_questions, subordinate_questions, message_questions, coordinator_of, message_at, heard, if_allowed, open_call, close_call, give_up_call, chase_call, reject_call, inquire_call, deliver_call, lose_call, cut_call, restart_call};
 ghost use Rattle.run.specs.Runs.{LeadsTo};
 ghost use Rattle.actor.specs.Log.{row_at};
+ghost use Rattle.station.specs.Moves.{move};
 ghost use Rattle.station.specs.Recovery.{stable_records};
+ghost use Rattle.std.specs.Option.{option_map};
 ghost use Rattle.stations.specs.Stations.{rebuilt};
 
 use crate::refusals::Refusal;
@@ -90,7 +92,24 @@ impl<J: Journal, P: Presumption> Run<J, P> {
         self.check_power(station)
     }
 
-    // Written out: one function for these five would take a closure whose contract is longer than their bodies.
+    // Takes the step that an entry allows; an entry that allows none refuses the call. Answers the acts done.
+    fn take_allowed(
+        &mut self,
+        station: u8,
+        revision: u16,
+        step: Option<Step>,
+        turn: Turn,
+        fuse: Fuse,
+    ) -> Result<u8, Refusal>
+        ensures { LeadsTo (if_allowed (P.answers self.old.presumption) station revision (option_map (λ x. move x turn) step) fuse.acts fuse.kept)
+            self.old (answer_of result) self.new }
+    {
+        let step = step.ok_or(Refusal::EntryForbids)?;
+        Ok(self.take_step(station, revision, step, turn, fuse))
+    }
+
+    // close, give_up, chase, reject and inquire are written out up to their step: one function for what they
+    // ask of an entry would take a closure whose contract is longer than these lines.
 
     /// Opens the vote on a revision: PREPARE goes to its set. Answers the acts done.
     pub fn close(&mut self, revision: u16, fuse: Fuse) -> Result<u8, Refusal>
@@ -99,9 +118,8 @@ impl<J: Journal, P: Presumption> Run<J, P> {
     {
         let station = self.coordinator_of(revision)?;
         let mut entry = self.stations.coordinator(station, revision);
-        let step = entry.close().ok_or(Refusal::EntryForbids)?;
-        let turn = Turn::Coordinator(entry);
-        Ok(self.take_step(station, revision, step, turn, fuse))
+        let step = entry.close();
+        self.take_allowed(station, revision, step, Turn::Coordinator(entry), fuse)
     }
 
     /// Gives a revision up: its set is told ABORT. Answers the acts done.
@@ -111,11 +129,8 @@ impl<J: Journal, P: Presumption> Run<J, P> {
     {
         let station = self.coordinator_of(revision)?;
         let mut entry = self.stations.coordinator(station, revision);
-        let step = entry
-            .give_up(&self.presumption)
-            .ok_or(Refusal::EntryForbids)?;
-        let turn = Turn::Coordinator(entry);
-        Ok(self.take_step(station, revision, step, turn, fuse))
+        let step = entry.give_up(&self.presumption);
+        self.take_allowed(station, revision, step, Turn::Coordinator(entry), fuse)
     }
 
     /// Tells the outcome again to those that have not acknowledged it. Answers the acts done.
@@ -125,9 +140,8 @@ impl<J: Journal, P: Presumption> Run<J, P> {
     {
         let station = self.coordinator_of(revision)?;
         let entry = self.stations.coordinator(station, revision);
-        let step = entry.chase().ok_or(Refusal::EntryForbids)?;
-        let turn = Turn::Coordinator(entry);
-        Ok(self.take_step(station, revision, step, turn, fuse))
+        let step = entry.chase();
+        self.take_allowed(station, revision, step, Turn::Coordinator(entry), fuse)
     }
 
     /// A station drops a revision before the vote. Answers the acts done.
@@ -137,9 +151,8 @@ impl<J: Journal, P: Presumption> Run<J, P> {
     {
         self.check_subordinate(revision, station)?;
         let mut entry = self.stations.subordinate(station, revision);
-        let step = entry.reject().ok_or(Refusal::EntryForbids)?;
-        let turn = Turn::Subordinate(entry);
-        Ok(self.take_step(station, revision, step, turn, fuse))
+        let step = entry.reject();
+        self.take_allowed(station, revision, step, Turn::Subordinate(entry), fuse)
     }
 
     /// A station in doubt asks the coordinator for the outcome. Answers the acts done.
@@ -149,9 +162,8 @@ impl<J: Journal, P: Presumption> Run<J, P> {
     {
         self.check_subordinate(revision, station)?;
         let entry = self.stations.subordinate(station, revision);
-        let step = entry.inquire().ok_or(Refusal::EntryForbids)?;
-        let turn = Turn::Subordinate(entry);
-        Ok(self.take_step(station, revision, step, turn, fuse))
+        let step = entry.inquire();
+        self.take_allowed(station, revision, step, Turn::Subordinate(entry), fuse)
     }
 
     // The message that waits at a place.
