@@ -11,6 +11,7 @@ ghost use Rattle.stations.specs.Stations.{subordinate_at};
 
 use crate::refusals::Refusal;
 use crate::run::Run;
+use crate::run::calls::check;
 use actor::Fuse;
 use journal::calls::Journal;
 use presumption::Presumption;
@@ -131,10 +132,8 @@ impl<J: Journal, P: Presumption> Run<J, P> {
             self.old (answer_of result) self.new }
         ensures emptied { OnOk result (self.new.state.store.post ≡ []) }
     {
-        self.check_fit()?;
-        if !self.stations.all_have_power() {
-            return Err(Refusal::NoPower);
-        }
+        check(self.fit, Refusal::Unfit)?;
+        check(self.stations.all_have_power(), Refusal::NoPower)?;
         Ok(self.finish_all())
     }
 }
