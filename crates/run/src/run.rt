@@ -24,7 +24,7 @@ use std::marker::Model;
 pub const LEAST_CAPACITY: usize = 160;
 
 /// 2 to 8 stations with a journal, the post between them and the as-run log.
-// J is bound because the view reads what the journal means; no run was ever made of anything but a journal.
+// J is a journal, since the view reads what it means; only Run::new makes a run, and asked for a journal before.
 #[derive(Drop)]
 pub struct Run<J: Journal, P> {
     actor: Actor<J>,
