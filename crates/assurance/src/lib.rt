@@ -17,8 +17,9 @@ use run::run::Run;
 use std::alloc::{AllocError, Global};
 
 /// A run that was played, and what each call answered.
+// J is a journal, since a run is of one.
 #[derive(Drop)]
-pub struct Played<J: Journal, P: Presumption> {
+pub struct Played<J: Journal, P> {
     pub run: Run<J, P>,
     pub answers: Vec<Result<Value, Refusal>>,
 }
@@ -31,6 +32,7 @@ fn perform_all<J: Journal, P: Presumption>(
 ) -> Result<Vec<Result<Value, Refusal>>, AllocError>
     ensures { IfOk result (λ xs. AllPerformed P.answers calls.now run.old run.new xs.items) }
 {
+    // Pushed one by one: the contract of collect does not say how it leaves a run that its closure borrows.
     let mut answers = Vec::new(heap);
     for call in calls {
         answers.push(perform(run, *call))?;

@@ -24,16 +24,18 @@ use std::marker::Model;
 pub const LEAST_CAPACITY: usize = 160;
 
 /// 2 to 8 stations with a journal, the post between them and the as-run log.
+// J is a journal, since the view reads what it means; only Run::new makes a run, and asked for a journal before.
 #[derive(Drop)]
-pub struct Run<J: Journal, P: Presumption> {
+pub struct Run<J: Journal, P> {
     actor: Actor<J>,
     presumption: P,
+    // A flag and no Option of the parts: a run that is not fit still shows its stations, its post and its journal.
     fit: bool,
     stations: Stations,
 }
 
 // A clause sees the presumption and the state.
-impl<J: Journal, P: Presumption> Model for Run<J, P> {
+impl<J: Journal, P> Model for Run<J, P> {
     ghost use Rattle.actor.specs.Actors.{store_of};
     ghost use Rattle.run.specs.Runs.{Shown};
 

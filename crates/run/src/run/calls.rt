@@ -1,10 +1,12 @@
 //! The calls of a run. Each asks its questions in their order, and the first no refuses it.
-ghost use Rattle.std.specs.Prelude.{◌≡◌, true, [], ◌∷◌, IfOk, OnOk};
+ghost use Rattle.std.specs.Prelude.{◌≡◌, cond, [], ◌∷◌, Ok, Err, IfOk};
 ghost use Rattle.run.specs.Answers.{answer_of, plain_answer};
-ghost use Rattle.run.specs.Calls.{Asks, fit?, there?, opened?, power?, opened_questions, coordinator_questions, subordinate_questions, message_questions, coordinator_of, message_at, heard, open_call, close_call, give_up_call, chase_call, reject_call, inquire_call, deliver_call, lose_call, cut_call, restart_call};
+ghost use Rattle.run.specs.Calls.{Asks, opened?, opened_questions, coordinator_questions, subordinate_questions, message_questions, coordinator_of, message_at, heard, if_allowed, open_call, close_call, give_up_call, chase_call, reject_call, inquire_call, deliver_call, lose_call, cut_call, restart_call};
 ghost use Rattle.run.specs.Runs.{LeadsTo};
 ghost use Rattle.actor.specs.Log.{row_at};
-ghost use Rattle.journal.specs.Meaning.{section};
+ghost use Rattle.station.specs.Moves.{move};
+ghost use Rattle.station.specs.Recovery.{stable_records};
+ghost use Rattle.std.specs.Option.{option_map};
 ghost use Rattle.stations.specs.Stations.{rebuilt};
 
 use crate::refusals::Refusal;
@@ -18,41 +20,14 @@ use station::sets::StationSet;
 use station::steps::Step;
 use stations::{Station, Turn};
 
+// The answer to one question of a call: a no refuses it.
+pub(crate) fn check(yes: bool, refusal: Refusal) -> Result<(), Refusal>
+    ensures { result ≡ cond yes (Ok tt) (Err refusal) }
+{
+    if yes { Ok(()) } else { Err(refusal) }
+}
+
 impl<J: Journal, P: Presumption> Run<J, P> {
-    // Refuses where the run is not fit.
-    pub(crate) fn check_fit(&self) -> Result<(), Refusal>
-        ensures asked { Asks (fit? self.now.state ∷ []) result self.now.state }
-        ensures fit { OnOk result (self.now.state.fit ≡ true) }
-    {
-        if self.fit {
-            Ok(())
-        } else {
-            Err(Refusal::Unfit)
-        }
-    }
-
-    // Refuses where there is no such station.
-    fn check_station(&self, station: u8) -> Result<(), Refusal>
-        ensures { Asks (there? station self.now.state ∷ []) result self.now.state }
-    {
-        if station < self.stations.len() {
-            Ok(())
-        } else {
-            Err(Refusal::NoSuchStation)
-        }
-    }
-
-    // Refuses where the station has no power.
-    fn check_power(&self, station: u8) -> Result<(), Refusal>
-        ensures { Asks (power? station self.now.state ∷ []) result self.now.state }
-    {
-        if self.stations.power(station) {
-            Ok(())
-        } else {
-            Err(Refusal::NoPower)
-        }
-    }
-
     // The row of a revision that was opened.
     fn opened_row(&self, revision: u16) -> Result<Row, Refusal>
         ensures asked { Asks (opened? revision self.now.state ∷ []) result self.now.state }
@@ -66,7 +41,7 @@ impl<J: Journal, P: Presumption> Run<J, P> {
         ensures asked { Asks (opened_questions revision self.now.state) result self.now.state }
         ensures value { IfOk result (λ c. c ≡ coordinator_of revision self.now.state) }
     {
-        self.check_fit()?;
+        check(self.fit, Refusal::Unfit)?;
         Ok(self.opened_row(revision)?.coordinator)
     }
 
@@ -76,21 +51,38 @@ impl<J: Journal, P: Presumption> Run<J, P> {
         ensures value { IfOk result (λ c. c ≡ coordinator_of revision self.now.state) }
     {
         let coordinator = self.opened_by(revision)?;
-        self.check_power(coordinator)?;
+        check(self.stations.power(coordinator), Refusal::NoPower)?;
         Ok(coordinator)
     }
 
-    // Refuses where the station has no power or the revision was not opened.
+    // Asks all that a subordinate's call asks: fit, a station, a revision that was opened, power.
     fn check_subordinate(&self, revision: u16, station: u8) -> Result<(), Refusal>
         ensures { Asks (subordinate_questions revision station self.now.state) result self.now.state }
     {
-        self.check_fit()?;
-        self.check_station(station)?;
+        check(self.fit, Refusal::Unfit)?;
+        check(station < self.stations.len(), Refusal::NoSuchStation)?;
         self.opened_row(revision)?;
-        self.check_power(station)
+        check(self.stations.power(station), Refusal::NoPower)
     }
 
-    // Written out: one function for these five would take a closure whose contract is longer than their bodies.
+    // Takes the step that an entry allows; an entry that allows none refuses the call. Answers the acts done.
+    fn take_allowed(
+        &mut self,
+        station: u8,
+        revision: u16,
+        step: Option<Step>,
+        turn: Turn,
+        fuse: Fuse,
+    ) -> Result<u8, Refusal>
+        ensures { LeadsTo (if_allowed (P.answers self.old.presumption) station revision (option_map (λ x. move x turn) step) fuse.acts fuse.kept)
+            self.old (answer_of result) self.new }
+    {
+        let step = step.ok_or(Refusal::EntryForbids)?;
+        Ok(self.take_step(station, revision, step, turn, fuse))
+    }
+
+    // close, give_up, chase, reject and inquire are written out up to their step: one function for these three
+    // lines would take a closure with a contract of its own, which is longer.
 
     /// Opens the vote on a revision: PREPARE goes to its set. Answers the acts done.
     pub fn close(&mut self, revision: u16, fuse: Fuse) -> Result<u8, Refusal>
@@ -99,9 +91,8 @@ impl<J: Journal, P: Presumption> Run<J, P> {
     {
         let station = self.coordinator_of(revision)?;
         let mut entry = self.stations.coordinator(station, revision);
-        let step = entry.close().ok_or(Refusal::EntryForbids)?;
-        let turn = Turn::Coordinator(entry);
-        Ok(self.take_step(station, revision, step, turn, fuse))
+        let step = entry.close();
+        self.take_allowed(station, revision, step, Turn::Coordinator(entry), fuse)
     }
 
     /// Gives a revision up: its set is told ABORT. Answers the acts done.
@@ -111,11 +102,8 @@ impl<J: Journal, P: Presumption> Run<J, P> {
     {
         let station = self.coordinator_of(revision)?;
         let mut entry = self.stations.coordinator(station, revision);
-        let step = entry
-            .give_up(&self.presumption)
-            .ok_or(Refusal::EntryForbids)?;
-        let turn = Turn::Coordinator(entry);
-        Ok(self.take_step(station, revision, step, turn, fuse))
+        let step = entry.give_up(&self.presumption);
+        self.take_allowed(station, revision, step, Turn::Coordinator(entry), fuse)
     }
 
     /// Tells the outcome again to those that have not acknowledged it. Answers the acts done.
@@ -125,9 +113,8 @@ impl<J: Journal, P: Presumption> Run<J, P> {
     {
         let station = self.coordinator_of(revision)?;
         let entry = self.stations.coordinator(station, revision);
-        let step = entry.chase().ok_or(Refusal::EntryForbids)?;
-        let turn = Turn::Coordinator(entry);
-        Ok(self.take_step(station, revision, step, turn, fuse))
+        let step = entry.chase();
+        self.take_allowed(station, revision, step, Turn::Coordinator(entry), fuse)
     }
 
     /// A station drops a revision before the vote. Answers the acts done.
@@ -137,9 +124,8 @@ impl<J: Journal, P: Presumption> Run<J, P> {
     {
         self.check_subordinate(revision, station)?;
         let mut entry = self.stations.subordinate(station, revision);
-        let step = entry.reject().ok_or(Refusal::EntryForbids)?;
-        let turn = Turn::Subordinate(entry);
-        Ok(self.take_step(station, revision, step, turn, fuse))
+        let step = entry.reject();
+        self.take_allowed(station, revision, step, Turn::Subordinate(entry), fuse)
     }
 
     /// A station in doubt asks the coordinator for the outcome. Answers the acts done.
@@ -149,9 +135,8 @@ impl<J: Journal, P: Presumption> Run<J, P> {
     {
         self.check_subordinate(revision, station)?;
         let entry = self.stations.subordinate(station, revision);
-        let step = entry.inquire().ok_or(Refusal::EntryForbids)?;
-        let turn = Turn::Subordinate(entry);
-        Ok(self.take_step(station, revision, step, turn, fuse))
+        let step = entry.inquire();
+        self.take_allowed(station, revision, step, Turn::Subordinate(entry), fuse)
     }
 
     // The message that waits at a place.
@@ -159,7 +144,7 @@ impl<J: Journal, P: Presumption> Run<J, P> {
         ensures asked { Asks (message_questions place self.now.state) result self.now.state }
         ensures value { IfOk result (λ m. m ≡ message_at place self.now.state) }
     {
-        self.check_fit()?;
+        check(self.fit, Refusal::Unfit)?;
         self.actor.message(place).ok_or(Refusal::NoMessage)
     }
 
@@ -172,6 +157,7 @@ impl<J: Journal, P: Presumption> Run<J, P> {
     {
         let station = message.receiver;
         let revision = message.revision;
+        // Written out: the entries are of two types, and only the coordinator's asks the presumption.
         if message.kind.is_for_subordinate() {
             let mut entry = self.stations.subordinate(station, revision);
             let step = entry.hear(message.kind, message.sender);
@@ -212,9 +198,9 @@ impl<J: Journal, P: Presumption> Run<J, P> {
     pub fn cut(&mut self, station: u8, kept: u8) -> Result<(), Refusal>
         ensures { LeadsTo (cut_call station kept) self.old (plain_answer result) self.new }
     {
-        self.check_fit()?;
-        self.check_station(station)?;
-        self.check_power(station)?;
+        check(self.fit, Refusal::Unfit)?;
+        check(station < self.stations.len(), Refusal::NoSuchStation)?;
+        check(self.stations.power(station), Refusal::NoPower)?;
         self.actor.cut(station, kept);
         self.stations.cut(station);
         Ok(())
@@ -223,7 +209,7 @@ impl<J: Journal, P: Presumption> Run<J, P> {
     // The station as its stable records rebuild it.
     fn rebuild(&self, station: u8) -> Station
         ensures { result
-            ≡ rebuilt (P.answers self.now.presumption) (section self.now.state.store.journal station).stable }
+            ≡ rebuilt (P.answers self.now.presumption) (stable_records self.now.state.store.journal station) }
     {
         Station::rebuild(self.actor.journal(), &self.presumption, station)
     }
@@ -233,11 +219,9 @@ impl<J: Journal, P: Presumption> Run<J, P> {
         ensures { LeadsTo (restart_call (P.answers self.old.presumption) station)
             self.old (plain_answer result) self.new }
     {
-        self.check_fit()?;
-        self.check_station(station)?;
-        if self.stations.power(station) {
-            return Err(Refusal::NotDark);
-        }
+        check(self.fit, Refusal::Unfit)?;
+        check(station < self.stations.len(), Refusal::NoSuchStation)?;
+        check(!self.stations.power(station), Refusal::NotDark)?;
         let row = self.rebuild(station);
         self.stations.put(station, row);
         Ok(())
@@ -247,13 +231,13 @@ impl<J: Journal, P: Presumption> Run<J, P> {
     pub fn open(&mut self, coordinator: u8, set: StationSet) -> Result<u16, Refusal>
         ensures { LeadsTo (open_call coordinator set) self.old (answer_of result) self.new }
     {
-        self.check_fit()?;
-        if !self.stations.names(coordinator, set) {
-            return Err(Refusal::NoSuchStation);
-        }
-        if !self.stations.power(coordinator) || !self.stations.have_power(set) {
-            return Err(Refusal::NoPower);
-        }
+        check(self.fit, Refusal::Unfit)?;
+        check(
+            self.stations.names(coordinator, set),
+            Refusal::NoSuchStation,
+        )?;
+        let lit = self.stations.power(coordinator) && self.stations.have_power(set);
+        check(lit, Refusal::NoPower)?;
         let revision = self
             .actor
             .add_row(coordinator, set)

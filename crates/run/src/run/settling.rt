@@ -11,6 +11,7 @@ ghost use Rattle.stations.specs.Stations.{subordinate_at};
 
 use crate::refusals::Refusal;
 use crate::run::Run;
+use crate::run::calls::check;
 use actor::Fuse;
 use journal::calls::Journal;
 use presumption::Presumption;
@@ -54,6 +55,7 @@ impl<J: Journal, P: Presumption> Run<J, P> {
         ensures bounded { result ≤ 1152 }
     {
         let mut deliveries = 0;
+        // A delivery may post more, so there is no list of messages to walk.
         while self.actor.waiting() > 0 {
             let _ = self.deliver(0, false, Fuse::LASTING);
             deliveries += 1;
@@ -117,6 +119,7 @@ impl<J: Journal, P: Presumption> Run<J, P> {
         // `as` is proved to lose nothing here, where `try_from` would bring in a failure.
         let revisions = self.actor.opened() as u16;
         let mut deliveries = self.drain();
+        // The calls take a revision by its number, and change the run meanwhile.
         for revision in 0..revisions {
             deliveries += self.finish(revision);
         }
@@ -129,10 +132,8 @@ impl<J: Journal, P: Presumption> Run<J, P> {
             self.old (answer_of result) self.new }
         ensures emptied { OnOk result (self.new.state.store.post ≡ []) }
     {
-        self.check_fit()?;
-        if !self.stations.all_have_power() {
-            return Err(Refusal::NoPower);
-        }
+        check(self.fit, Refusal::Unfit)?;
+        check(self.stations.all_have_power(), Refusal::NoPower)?;
         Ok(self.finish_all())
     }
 }

@@ -20,6 +20,8 @@ impl<J: Journal, P: Presumption> Run<J, P> {
         &self.stations
     }
 
+    // This and the next two spare callers the way over stations().
+
     /// Has the station power?
     pub fn power(&self, station: u8) -> bool
         ensures { result ≡ power_at self.now.state.stations station }
