@@ -4,4 +4,4 @@
 pub mod refusals;
 pub mod run;
 
-pub use actor::Fuse;
+pub use actor::{Fuse, Row};
