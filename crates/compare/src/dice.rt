@@ -26,17 +26,18 @@ impl Dice {
         if limit == 0 {
             return 0;
         }
+        // 31 bits fit a usize.
         (self.roll() as usize) % limit
     }
 
     /// Any byte.
     pub fn byte(&mut self) -> u8 {
-        (self.roll() & 0xff) as u8
+        self.roll().to_le_bytes()[0]
     }
 
     /// A byte below a limit; 0 where the limit is 0.
     pub fn byte_below(&mut self, limit: u8) -> u8 {
-        (self.below(usize::from(limit)) & 0xff) as u8
+        self.below(usize::from(limit)).to_le_bytes()[0]
     }
 
     /// Yes, so many times in a hundred.

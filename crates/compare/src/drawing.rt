@@ -35,13 +35,8 @@ pub struct Drawing<'a> {
 
 // Does the entry allow the call? Only close is drawn for an entry that is Open, though it allows giving up too.
 fn suits(verb: Verb, holding: Holding) -> bool {
-    match holding {
-        Holding::Opened(_) => verb == Verb::Close,
-        Holding::Collecting(_, _) => verb == Verb::GiveUp,
-        Holding::Announcing(_, _) => verb == Verb::Chase,
-        Holding::Active(_) => verb == Verb::Reject,
-        Holding::Prepared(_) => verb == Verb::Inquire,
-    }
+    let open = matches!(holding, Holding::Opened(_));
+    holding.allows(verb) && !(open && verb == Verb::GiveUp)
 }
 
 impl Style {
@@ -49,6 +44,7 @@ impl Style {
     fn verb(&self, dice: &mut Dice) -> Verb {
         let often = self.weights.iter().map(|weight| weight.1);
         let mut left = dice.below(often.fold(0, usize::saturating_add));
+        // The first whose part of the total holds the number: a running rest is plainer than a scan.
         for Weight(verb, often) in self.weights {
             match left.checked_sub(often) {
                 Some(rest) => left = rest,
@@ -80,6 +76,8 @@ impl<'a> Drawing<'a> {
         verb
     }
 
+    // The draws below are alike, but each rolls in an order of its own, which decides what is printed.
+
     // A revision: often one of the last, sometimes one that is not there.
     fn revision(&mut self) -> u16 {
         let opened = self.model.rows.len();
@@ -91,6 +89,7 @@ impl<'a> Drawing<'a> {
         } else {
             self.dice.below(opened)
         };
+        // The remainder is the number itself, and lets the cast be proved to lose nothing.
         (one % 65536) as u16
     }
 
@@ -218,6 +217,7 @@ impl<'a> Drawing<'a> {
                 ..PLAIN
             };
         }
+        // The remainder is the number itself, and lets the cast be proved to lose nothing.
         let revision = (turn.wrapping_sub(FLOOD_OPENS) % 65536) as u16;
         Call {
             verb: Verb::Close,

@@ -4,10 +4,10 @@ use crate::seen::{Seen, Spot, Trouble};
 use crate::tally::PLAIN;
 use journal::table::Table;
 use model::sections::Log;
-use model::words::{Call, Outage, Verb};
+use model::words::{Call, Outage, Refusal, Verb};
 
 /// Some calls on a run of three stations, and what the last of them answers under presumed abort and presumed commit.
-#[derive(Clone, Copy)]
+#[derive(Clone, Copy, PartialEq, Eq, Debug)]
 struct Example {
     calls: &'static [Call],
     abort: Seen,
@@ -102,7 +102,7 @@ const DELIVER_3: Call = Call {
 };
 
 // An example with one answer under both presumptions.
-const fn alike(calls: &'static [Call], answer: Seen) -> Example {
+fn alike(calls: &'static [Call], answer: Seen) -> Example {
     Example {
         calls,
         abort: answer,
@@ -111,16 +111,16 @@ const fn alike(calls: &'static [Call], answer: Seen) -> Example {
 }
 
 // An example that is refused under both presumptions.
-const fn refused(calls: &'static [Call], number: u8) -> Example {
-    alike(calls, Seen::Refused(number))
+fn refused(calls: &'static [Call], refusal: Refusal) -> Example {
+    alike(calls, Seen::Refused(u8::from(refusal)))
 }
 
-// The examples that are refused, by their numbers.
+// The examples that are refused.
 fn refusals() -> [Example; 16] {
     [
-        refused(&[Call { set: 0, ..OPEN }], 2),
-        refused(&[Call { set: 8, ..OPEN }], 2),
-        refused(&[Call { station: 3, ..OPEN }], 2),
+        refused(&[Call { set: 0, ..OPEN }], Refusal::NoSuchStation),
+        refused(&[Call { set: 8, ..OPEN }], Refusal::NoSuchStation),
+        refused(&[Call { station: 3, ..OPEN }], Refusal::NoSuchStation),
         refused(
             &[
                 OPEN,
@@ -130,9 +130,9 @@ fn refusals() -> [Example; 16] {
                     ..REJECT_1
                 },
             ],
-            2,
+            Refusal::NoSuchStation,
         ),
-        refused(&[CLOSE], 3),
+        refused(&[CLOSE], Refusal::NotOpened),
         refused(
             &[
                 OPEN,
@@ -141,18 +141,21 @@ fn refusals() -> [Example; 16] {
                     ..AWAITED
                 },
             ],
-            3,
+            Refusal::NotOpened,
         ),
-        refused(&[OPEN, CUT_0, GIVE_UP], 4),
-        refused(&[CUT_1, OPEN], 4),
-        refused(&[CUT_1, SETTLE], 4),
-        refused(&[OPEN; 33], 5),
-        refused(&[OPEN, CLOSE, CLOSE], 6),
-        refused(&[OPEN, INQUIRE_1], 6),
-        refused(&[OPEN, CHASE], 6),
-        refused(&[DELIVER], 7),
-        refused(&[OPEN, CLOSE, Call { place: 2, ..LOSE }], 7),
-        refused(&[RESTART_1], 8),
+        refused(&[OPEN, CUT_0, GIVE_UP], Refusal::NoPower),
+        refused(&[CUT_1, OPEN], Refusal::NoPower),
+        refused(&[CUT_1, SETTLE], Refusal::NoPower),
+        refused(&[OPEN; 33], Refusal::TooManyRevisions),
+        refused(&[OPEN, CLOSE, CLOSE], Refusal::EntryForbids),
+        refused(&[OPEN, INQUIRE_1], Refusal::EntryForbids),
+        refused(&[OPEN, CHASE], Refusal::EntryForbids),
+        refused(&[DELIVER], Refusal::NoMessage),
+        refused(
+            &[OPEN, CLOSE, Call { place: 2, ..LOSE }],
+            Refusal::NoMessage,
+        ),
+        refused(&[RESTART_1], Refusal::NotDark),
     ]
 }
 
@@ -180,7 +183,10 @@ fn answered() -> [Example; 14] {
             commit: Seen::Deliveries(8),
         },
         alike(&[OPEN, CLOSE, DELIVER_1], Seen::Acts(1)),
-        refused(&[OPEN, CLOSE, DELIVER_1, RESTART_1, INQUIRE_1], 6),
+        refused(
+            &[OPEN, CLOSE, DELIVER_1, RESTART_1, INQUIRE_1],
+            Refusal::EntryForbids,
+        ),
         alike(
             &[OPEN, CLOSE, DELIVER_1_KEPT, RESTART_1, INQUIRE_1],
             Seen::Acts(1),
@@ -208,7 +214,7 @@ impl Player {
     fn play_example(&mut self, example: Example, leaning: Leaning) -> Result<(), Trouble> {
         let expected = match leaning {
             Leaning::Abort => example.abort,
-            _ => example.commit,
+            Leaning::Commit | Leaning::Wary => example.commit,
         };
         let plan = Plan::Listed(example.calls);
         let table = Table::new(self.heap, 3)?;

@@ -48,7 +48,7 @@ struct Lent {
 
 impl Lent {
     // Zeros.
-    const fn zeros(length: usize, stations: u8) -> Lent {
+    fn zeros(length: usize, stations: u8) -> Lent {
         Lent {
             length,
             stations,
@@ -57,11 +57,10 @@ impl Lent {
     }
 
     // Bytes with a record in them.
-    const fn used(length: usize, stations: u8) -> Lent {
+    fn used(length: usize, stations: u8) -> Lent {
         Lent {
-            length,
-            stations,
             front: &USED,
+            ..Lent::zeros(length, stations)
         }
     }
 

@@ -2,14 +2,14 @@
 use crate::dice::Dice;
 use crate::grounds::agree_on_bytes;
 use crate::player::Player;
-use crate::seen::{Seen, Spot, Trouble, model_seen};
+use crate::seen::{Seen, Spot, Trouble};
 use crate::views::agree_on_journal;
 use join::Join;
 use journal::calls::Journal;
 use journal::records::{Kind as EngineKind, Record as EngineRecord, decode as engine_decode};
 use journal::table::Table;
 use journal_bytes::ByteJournal;
-use model::layout::{decode, encode, found, imprint};
+use model::layout::{decode, found, imprint};
 use model::sections::Log;
 use model::words::{Kind, Record};
 use std::alloc::AllocError;
@@ -51,6 +51,7 @@ impl Pair {
     // Any record.
     fn draw(dice: &mut Dice) -> Pair {
         let (engine_kind, kind) = dice.pick(&KINDS, (EngineKind::End, Kind::End));
+        // The remainder is the number itself, and lets the cast be proved to lose nothing.
         let revision = (dice.below(65536) % 65536) as u16;
         let argument = dice.byte();
         Pair {
@@ -68,7 +69,7 @@ impl Pair {
     }
 }
 
-// A station, sometimes one that is not served.
+// A station, sometimes one that is not served: with other numbers and chances than in lists of calls.
 fn draw_station(dice: &mut Dice, served: u8) -> u8 {
     if dice.chance(12) {
         dice.pick(&[served, 7, 8, 9, 200, 255], 200)
@@ -101,7 +102,7 @@ impl Deed {
     // Does the deed at the model.
     fn do_at_model(&self, log: &mut Log) -> Result<Seen, Trouble> {
         match self.change {
-            Change::Write(record) => model_seen(log.write(self.station, record.model)),
+            Change::Write(record) => Seen::of_model(log.write(self.station, record.model)),
             Change::Force => Ok(Seen::from(log.force(self.station))),
             Change::Cut(kept) => Ok(Seen::from(log.cut(self.station, kept))),
         }
@@ -221,6 +222,8 @@ impl Player {
         Ok(())
     }
 
+    // The two joins are written out, since they are of two types, and the order of draws decides what is printed.
+
     // A join of bytes and then two tables.
     fn play_bytes_first(&mut self) -> Result<(), Trouble> {
         let heap = self.heap;
@@ -301,7 +304,7 @@ impl Player {
         for _string in 0..3000 {
             self.play_decoding()?;
             let record = Pair::draw(&mut self.dice);
-            agree_on_every_byte(&record.engine.encode(), &encode(&record.model))?;
+            agree_on_every_byte(&record.engine.encode(), &record.model.encode())?;
             self.tally.decodings = self.tally.decodings.saturating_add(1);
         }
         Ok(())

@@ -1,18 +1,16 @@
 //! Lists of calls, played on both sides at once.
 use crate::dice::Dice;
 use crate::drawing::Drawing;
-use crate::seen::{Seen, Spot, Trouble, answer_seen, model_seen};
+use crate::seen::{Seen, Spot, Trouble};
 use crate::styles::Style;
 use crate::tally::{PLAIN, Tally};
 use crate::views::agree_on_run;
-use crate::wary::{Wary, wary_answers};
+use crate::wary::{WARY_ANSWERS, Wary};
 use assurance::calls::{Call as EngineCall, perform};
 use journal::calls::Journal;
 use model::sections::Log;
 use model::whole::Model;
-use model::words::{
-    Call, Outage, Presumption as ModelPresumption, Verb, presumed_abort, presumed_commit,
-};
+use model::words::{Call, Outage, Presumption as ModelPresumption, Verb};
 use presumption::Presumption;
 use presumption::abort::PresumedAbort;
 use presumption::commit::PresumedCommit;
@@ -30,14 +28,14 @@ pub enum Leaning {
 }
 
 /// What to play: calls drawn in a style, or a list as it stands.
-#[derive(Clone, Copy)]
+#[derive(Clone, Copy, PartialEq, Eq, Debug)]
 pub enum Plan {
     Drawn(Style, usize),
     Listed(&'static [Call]),
 }
 
 /// A plan, and the presumption that it is played under.
-#[derive(Clone, Copy)]
+#[derive(Clone, Copy, PartialEq, Eq, Debug)]
 pub struct Game {
     pub leaning: Leaning,
     pub plan: Plan,
@@ -61,7 +59,7 @@ impl Plan {
     }
 }
 
-// A call as the engine takes it.
+// A call as the engine takes it. A function, since no From can be written between types of two other crates.
 fn engine_call(call: &Call) -> EngineCall {
     let Call {
         verb,
@@ -109,7 +107,7 @@ fn make<J: Journal, P: Presumption>(
 ) -> Result<Seen, Trouble> {
     let engine = Seen::from(perform(run, engine_call(call)));
     let answer = model.perform(call);
-    let expected = model_seen(answer.map(|answer| answer_seen(answer, engine)))?;
+    let expected = Seen::of_model(answer.map(|answer| Seen::of_answer(answer, engine)))?;
     Spot::of("answer").agree(engine, expected)?;
     agree_on_run(run, model)?;
     Ok(engine)
@@ -142,11 +140,17 @@ impl Player {
     ) -> Result<Model, Trouble> {
         let plan = game.plan;
         match game.leaning {
-            Leaning::Abort => self.play_under(PresumedAbort, presumed_abort(), journal, log, plan),
+            Leaning::Abort => self.play_under(
+                PresumedAbort,
+                ModelPresumption::ABORT,
+                journal,
+                log,
+                plan,
+            ),
             Leaning::Commit => {
-                self.play_under(PresumedCommit, presumed_commit(), journal, log, plan)
+                self.play_under(PresumedCommit, ModelPresumption::COMMIT, journal, log, plan)
             }
-            Leaning::Wary => self.play_under(Wary, wary_answers(), journal, log, plan),
+            Leaning::Wary => self.play_under(Wary, WARY_ANSWERS, journal, log, plan),
         }
     }
 
@@ -163,6 +167,7 @@ impl Player {
         let mut model = Model::new(self.heap, answers, log);
         self.tally.begin();
         agree_on_run(&run, &model)?;
+        // Turn by turn: what is drawn depends on the model as the last call left it.
         for turn in 0..plan.calls() {
             let call = plan.call(turn, &mut self.dice, &model);
             self.tally.note_call(&call);

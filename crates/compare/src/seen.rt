@@ -4,13 +4,15 @@ use journal::records::Record as EngineRecord;
 use model::sets::{STATIONS, Set};
 use model::words::{Answer, Failure, Holding, Message, Outcome, Record, Row, Word};
 use presumption::outcome::Outcome as EngineOutcome;
+use run::Row as EngineRow;
 use station::coordinator::CoordinatorEntry;
 use station::messages::{Message as EngineMessage, MessageKind};
 use station::subordinate::SubordinateEntry;
 use std::alloc::{AllocError, AllocFailed};
 use std::fmt;
 
-/// One thing that a side shows. Sets are bytes, and the kind of a record is its letter.
+/// One thing that a side shows. Nothing and refusals are variants, so that all that is shown is one type; sets are bytes,
+/// since each side has its own type of set, and the kind of a record is its letter.
 #[derive(Clone, Copy, PartialEq, Eq, Debug)]
 pub enum Seen {
     Nothing,
@@ -34,7 +36,7 @@ pub enum Seen {
 }
 
 /// What is compared, and at which station and place.
-#[derive(Clone, Copy)]
+#[derive(Clone, Copy, PartialEq, Eq, Debug)]
 pub struct Spot {
     pub what: &'static str,
     pub station: u8,
@@ -42,7 +44,7 @@ pub struct Spot {
 }
 
 /// A difference: where, and what each side has there.
-#[derive(Clone, Copy)]
+#[derive(Clone, Copy, PartialEq, Eq, Debug)]
 pub struct Fault {
     pub spot: Spot,
     pub engine: Seen,
@@ -62,7 +64,7 @@ impl fmt::Display for Fault {
 }
 
 /// Why the program stops before its end.
-#[derive(Drop)]
+#[derive(Debug, Drop)]
 pub enum Trouble {
     Memory,
     Differs(Fault),
@@ -136,12 +138,6 @@ impl<T: Into<Seen>, E: Into<u8>> From<Result<T, E>> for Seen {
 impl From<()> for Seen {
     fn from(_done: ()) -> Seen {
         Seen::Done
-    }
-}
-
-impl From<bool> for Seen {
-    fn from(power: bool) -> Seen {
-        Seen::Power(power)
     }
 }
 
@@ -248,6 +244,17 @@ impl From<Holding> for Seen {
     }
 }
 
+impl From<EngineRow> for Seen {
+    fn from(row: EngineRow) -> Seen {
+        Seen::Row(
+            row.coordinator,
+            u8::from(row.set),
+            u8::from(row.installed),
+            u8::from(row.dropped),
+        )
+    }
+}
+
 impl From<Row> for Seen {
     fn from(row: Row) -> Seen {
         Seen::Row(
@@ -266,6 +273,7 @@ impl From<Value> for Seen {
             Value::Acts(acts) => Seen::Acts(usize::from(acts)),
             Value::Nothing => Seen::Done,
             Value::Deliveries(count) => Seen::Deliveries(count),
+            // At most 8; no From makes a usize of a u32.
             Value::Awaited(awaited) => Seen::Awaited(awaited.station, awaited.count as usize),
         }
     }
@@ -280,22 +288,24 @@ fn named(unheard: Set, engine: Seen) -> Option<u8> {
     }
 }
 
-/// An answer of the model, beside that of the engine, which is free to name any station not heard from.
-pub fn answer_seen(answer: Answer, engine: Seen) -> Seen {
-    match answer {
-        Answer::Revision(revision) => Seen::Revision(revision),
-        Answer::Acts(acts) => Seen::Acts(acts),
-        Answer::Zero => Seen::Done,
-        Answer::Deliveries(count) => Seen::Deliveries(count),
-        Answer::Unheard(set) => Seen::Awaited(named(set, engine), set.size()),
+impl Seen {
+    /// An answer of the model, beside that of the engine, which is free to name any station not heard from.
+    pub fn of_answer(answer: Answer, engine: Seen) -> Seen {
+        match answer {
+            Answer::Revision(revision) => Seen::Revision(revision),
+            Answer::Acts(acts) => Seen::Acts(acts),
+            Answer::Zero => Seen::Done,
+            Answer::Deliveries(count) => Seen::Deliveries(count),
+            Answer::Unheard(set) => Seen::Awaited(named(set, engine), set.size()),
+        }
     }
-}
 
-/// What the model did, or its refusal; that it has no memory is trouble.
-pub fn model_seen<T: Into<Seen>>(done: Result<T, Failure>) -> Result<Seen, Trouble> {
-    match done {
-        Ok(value) => Ok(value.into()),
-        Err(Failure::Refused(refusal)) => Ok(Seen::Refused(u8::from(refusal))),
-        Err(Failure::Memory) => Err(Trouble::Memory),
+    /// What the model did, or its refusal; that it has no memory is trouble.
+    pub fn of_model<T: Into<Seen>>(done: Result<T, Failure>) -> Result<Seen, Trouble> {
+        match done {
+            Ok(value) => Ok(value.into()),
+            Err(Failure::Refused(refusal)) => Ok(Seen::Refused(u8::from(refusal))),
+            Err(Failure::Memory) => Err(Trouble::Memory),
+        }
     }
 }

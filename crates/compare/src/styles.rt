@@ -2,13 +2,13 @@
 use model::words::Verb;
 
 /// A call, and how often it comes among the others.
-#[derive(Clone, Copy)]
+#[derive(Clone, Copy, PartialEq, Eq, Debug)]
 pub struct Weight(pub Verb, pub usize);
 
 /// A style. Of a hundred calls `fused` have a fuse that may burn, and of a hundred arguments `absurd` are out of
 /// bounds. Each `period` turns all dark stations are restarted and the run is settled. A flood begins by opening as many
 /// revisions as there are and two more, each for all stations, and closing them all.
-#[derive(Clone, Copy)]
+#[derive(Clone, Copy, PartialEq, Eq, Debug)]
 pub struct Style {
     pub weights: [Weight; 12],
     pub fused: usize,

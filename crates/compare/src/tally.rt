@@ -1,7 +1,7 @@
 //! What was compared so far, and what is being compared.
 use crate::seen::Seen;
 use model::whole::Model;
-use model::words::{Call, Outage, Verb};
+use model::words::{Call, Outage, Refusal, Verb};
 use std::alloc::{AllocError, Global};
 use std::collections::BTreeMap;
 
@@ -16,11 +16,23 @@ pub const PLAIN: Call = Call {
     outage: Outage::NEVER,
 };
 
-/// The numbers of all refusals.
-const REFUSALS: [u8; 11] = [1, 2, 3, 4, 5, 6, 7, 8, 11, 12, 13];
+/// All refusals.
+const REFUSALS: [Refusal; 11] = [
+    Refusal::Unfit,
+    Refusal::NoSuchStation,
+    Refusal::NotOpened,
+    Refusal::NoPower,
+    Refusal::TooManyRevisions,
+    Refusal::EntryForbids,
+    Refusal::NoMessage,
+    Refusal::NotDark,
+    Refusal::NotServed,
+    Refusal::Full,
+    Refusal::NotARecord,
+];
 
 /// Counts of what agreed, each refusal's by its number; and the call at hand, its number in its list, and the last
-/// answer.
+/// answer. Counts saturate, since nothing bounds them; no Default, since the map takes its memory from a heap.
 #[derive(Drop)]
 pub struct Tally {
     pub examples: usize,
@@ -43,8 +55,8 @@ impl Tally {
     /// Nothing compared yet.
     pub fn new(heap: Global) -> Result<Tally, AllocError> {
         let mut refused = BTreeMap::new(heap);
-        for number in REFUSALS {
-            refused.insert(number, 0)?;
+        for refusal in REFUSALS {
+            refused.insert(u8::from(refusal), 0)?;
         }
         Ok(Tally {
             examples: 0,

@@ -43,7 +43,10 @@ fn agree_on_stations<J: Journal, P: Presumption>(
     let opened = u16::try_from(model.rows.len()).unwrap_or(u16::MAX);
     for station in 0..served {
         let power = Spot::of("power").at(station);
-        power.agree(stations.power(station), !model.dark.holds(station))?;
+        power.agree(
+            Seen::Power(stations.power(station)),
+            Seen::Power(!model.dark.holds(station)),
+        )?;
         let parts = model
             .parts
             .iter()
@@ -59,25 +62,13 @@ fn agree_on_post<J: Journal, P: Presumption>(
     run: &Run<J, P>,
     model: &Model,
 ) -> Result<(), Trouble> {
-    let waiting = model.post.len();
-    Spot::of("messages waiting").agree(run.waiting(), waiting)?;
+    Spot::of("messages waiting").agree(run.waiting(), model.post.len())?;
     let spot = Spot::of("message");
-    for (place, message) in model.post.iter().enumerate() {
-        spot.place(place).agree(run.message(place), *message)?;
+    let messages = model.post.iter().copied().map(Seen::from);
+    for (place, message) in messages.chain([Seen::Nothing]).enumerate() {
+        spot.place(place).agree(run.message(place), message)?;
     }
-    spot.place(waiting)
-        .agree(run.message(waiting), Seen::Nothing)
-}
-
-// A row of the engine's as-run log. Its type belongs to the actor, a crate that this one does not see.
-fn row_seen<J: Journal, P: Presumption>(run: &Run<J, P>, revision: u16) -> Seen {
-    let row = run.as_run(revision).map(|row| Seen::Row(
-        row.coordinator,
-        u8::from(row.set),
-        u8::from(row.installed),
-        u8::from(row.dropped),
-    ));
-    Seen::from(row)
+    Ok(())
 }
 
 // The as-run log, row by row, and nothing behind it.
@@ -87,9 +78,10 @@ fn agree_on_rows<J: Journal, P: Presumption>(
 ) -> Result<(), Trouble> {
     let spot = Spot::of("as-run row");
     let rows = model.rows.iter().copied().map(Seen::from);
+    // Revisions are u16, so enumerate does not count them.
     for (revision, row) in (0..u16::MAX).zip(rows.chain([Seen::Nothing])) {
         spot.place(usize::from(revision))
-            .agree(row_seen(run, revision), row)?;
+            .agree(run.as_run(revision), row)?;
     }
     Ok(())
 }
@@ -105,16 +97,16 @@ fn agree_on_section<J: Journal>(journal: &J, log: &Log, station: u8) -> Result<(
     let unforced_records = Spot::of("unforced records").at(station);
     unforced_records.agree(journal.unforced_len(station), unforced)?;
     let spot = Spot::of("stable record").at(station);
-    let lines = log
+    let records = log
         .lines
         .iter()
-        .filter(|line| line.station == station && line.stable);
-    for (place, line) in lines.enumerate() {
+        .filter(|line| line.station == station && line.stable)
+        .map(|line| Seen::from(line.what));
+    for (place, record) in records.chain([Seen::Nothing]).enumerate() {
         spot.place(place)
-            .agree(journal.read(station, place), line.what)?;
+            .agree(journal.read(station, place), record)?;
     }
-    spot.place(stable)
-        .agree(journal.read(station, stable), Seen::Nothing)
+    Ok(())
 }
 
 /// A journal: its stations, and the section of each, of some past the last and of one far past it.

@@ -3,7 +3,9 @@
 ghost use Rattle.compare.specs.Wary.{wary};
 ghost use Rattle.std.proofs.Common.{rules};
 
-use model::words::{AbortLogging, Outcome as ModelOutcome, Presumption as ModelPresumption};
+use model::words::{
+    AbortLogging, Handling, Outcome as ModelOutcome, Presumption as ModelPresumption,
+};
 use presumption::Presumption;
 use presumption::outcome::{Logging, Outcome};
 
@@ -37,15 +39,17 @@ impl Presumption for Wary {
     }
 }
 
+/// Every outcome is acknowledged and forced.
+const HANDLING: Handling = Handling {
+    acknowledged: true,
+    forced: true,
+};
+
 /// The same answers for the model.
-pub fn wary_answers() -> ModelPresumption {
-    ModelPresumption {
-        presumed: ModelOutcome::Abort,
-        opens: true,
-        acknowledges_commit: true,
-        acknowledges_abort: true,
-        forces_commit: true,
-        forces_abort: true,
-        abort_logging: AbortLogging::Forced,
-    }
-}
+pub const WARY_ANSWERS: ModelPresumption = ModelPresumption {
+    presumed: ModelOutcome::Abort,
+    opens: true,
+    commit: HANDLING,
+    abort: HANDLING,
+    abort_logging: AbortLogging::Forced,
+};

@@ -1,6 +1,6 @@
 //! The questions before each call, each by the refusal that it gives when it is answered no.
 
-use super::sets::Set;
+use super::sets::{MOST_STATIONS, Set};
 use super::whole::Model;
 use super::words::{Call, Entry, Refusal, Side, Verb};
 
@@ -37,10 +37,12 @@ fn asks(verb: Verb) -> &'static [Refusal] {
 impl Model {
     /// Asks the questions of a call, up to the first that is answered no.
     pub(crate) fn ask(&self, call: &Call) -> Result<(), Refusal> {
-        asks(call.verb)
-            .iter()
-            .find(|refusal| !self.answers_yes(**refusal, call))
-            .map_or(Ok(()), |refusal| Err(*refusal))
+        for refusal in asks(call.verb) {
+            if !self.answers_yes(*refusal, call) {
+                return Err(*refusal);
+            }
+        }
+        Ok(())
     }
 
     /// The answer to the question that a refusal stands for.
@@ -59,19 +61,20 @@ impl Model {
         }
     }
 
-    /// Question 2: the stations that the call names.
+    /// Whether all stations that the call names are there.
     fn all_there(&self, call: &Call) -> bool {
         let served = self.log.served();
         let set = Set::from(call.set);
-        let set_there = set.size() > 0 && (served..8).all(|station| !set.holds(station));
+        let set_there = set.size() > 0
+            && (served..MOST_STATIONS).all(|station| !set.holds(station));
         call.station < served && (call.verb != Verb::Open || set_there)
     }
 
-    /// Question 4: the stations that need power.
+    /// The stations that need power for the call.
     fn needed(&self, call: &Call) -> Set {
         match call.verb {
             Verb::Open => Set::from(call.set).with(call.station),
-            Verb::Settle => Set::from(255),
+            Verb::Settle => Set::EVERYBODY,
             Verb::Cut => Set::default().with(call.station),
             _ => self
                 .acting(call)
@@ -89,7 +92,7 @@ impl Model {
         }
     }
 
-    /// Question 6: the acting station's entry.
+    /// Whether the acting station's entry allows the call.
     fn allowed(&self, call: &Call) -> bool {
         self.acting(call)
             .and_then(|entry| self.holding(entry))

@@ -4,10 +4,12 @@ use super::sections::{Line, Log};
 use super::words::{Kind, Record, Refusal};
 use std::alloc::{AllocError, Global};
 
-/// The four bytes of a record.
-pub fn encode(what: &Record) -> [u8; 4] {
-    let [high, low] = what.revision.to_be_bytes();
-    [u8::from(what.kind), high, low, what.argument]
+impl Record {
+    /// The four bytes of a record.
+    pub fn encode(self) -> [u8; 4] {
+        let [high, low] = self.revision.to_be_bytes();
+        [u8::from(self.kind), high, low, self.argument]
+    }
 }
 
 /// The record at the front of some bytes.
@@ -108,11 +110,12 @@ fn imprint_section(log: &Log, station: u8, section: &mut [u8]) {
     let (places, _) = records.as_chunks_mut::<4>();
     let lines = log.lines.iter().filter(|line| line.station == station);
     for (place, line) in places.iter_mut().zip(lines) {
-        *place = encode(&line.what);
+        *place = line.what.encode();
     }
 }
 
 /// A count in two bytes, high byte first; no section counts as many as 65536.
 fn two_bytes(count: usize) -> [u8; 2] {
-    ((count % 65536) as u16).to_be_bytes()
+    let [.., high, low] = count.to_be_bytes();
+    [high, low]
 }

@@ -1,8 +1,11 @@
 //! The journals: what each station wrote, in one list.
 
-use super::sets::STATIONS;
+use super::sets::{MOST_STATIONS, STATIONS};
 use super::words::{Failure, Record, Refusal};
 use std::alloc::{AllocError, Global};
+
+/// The capacity of each section of a table, and the least of each section of a fit run.
+pub(crate) const CAPACITY: usize = 160;
 
 /// One record that a station wrote, and whether it is stable.
 #[derive(Clone, Copy, PartialEq, Eq, Debug)]
@@ -21,10 +24,14 @@ pub struct Log {
 }
 
 impl Log {
-    /// A journal for so many stations, with the same capacity each, all lists empty. It serves none where 8 are not
-    /// enough.
+    /// A journal for so many stations, with the same capacity each, all lists empty. It serves none where
+    /// they are too many.
     pub fn even(heap: Global, stations: u8, capacity: usize) -> Log {
-        let served = if stations > 8 { 0 } else { stations };
+        let served = if stations > MOST_STATIONS {
+            0
+        } else {
+            stations
+        };
         let room = STATIONS.map(|station| (station < served).then_some(capacity));
         let lines = Vec::new(heap);
         Log { room, lines }
@@ -32,10 +39,10 @@ impl Log {
 
     /// The table journal made for a number of stations.
     pub fn table(heap: Global, stations: u8) -> Log {
-        Log::even(heap, stations, 160)
+        Log::even(heap, stations, CAPACITY)
     }
 
-    /// The join: the stations of the first, then those of the second, as far as number 7.
+    /// The join: the stations of the first, then those of the second, as far as there are numbers.
     pub fn join(first: Log, second: Log) -> Result<Log, AllocError> {
         let mut both = first;
         let shift = both.served();
@@ -47,16 +54,17 @@ impl Log {
             station: shift.saturating_add(line.station),
             ..*line
         });
-        both.lines.extend(shifted.filter(|line| line.station < 8))?;
+        both.lines
+            .extend(shifted.filter(|line| line.station < MOST_STATIONS))?;
         Ok(both)
     }
 
-    /// How many stations are served, at most 8: the number of the first one that is not.
+    /// How many stations are served: the number of the first one that is not.
     pub fn served(&self) -> u8 {
         STATIONS
             .into_iter()
             .find(|station| self.section(*station).is_err())
-            .unwrap_or(8)
+            .unwrap_or(MOST_STATIONS)
     }
 
     /// The capacity of the section of a station that is served.
@@ -73,7 +81,8 @@ impl Log {
         self.section(station).unwrap_or(0)
     }
 
-    /// How many stable records, or how many unforced ones, a station has.
+    /// How many stable records, or how many unforced ones, a station has. The flag is that of a line, with which it is
+    /// compared.
     pub fn count(&self, station: u8, stable: bool) -> usize {
         self.lines
             .iter()

@@ -2,6 +2,9 @@
 
 ghost use Rattle.std.specs.Prelude.{◌≡◌, ◌/◌, ◌%◌, ◌^◌, ◌<◌, ◌==◌, SomeIff};
 
+/// How many stations there are at most.
+pub(crate) const MOST_STATIONS: u8 = 8;
+
 /// The numbers that a station can have.
 pub const STATIONS: [u8; 8] = [0, 1, 2, 3, 4, 5, 6, 7];
 
@@ -44,6 +47,9 @@ impl From<Set> for u8 {
 }
 
 impl Set {
+    /// All stations.
+    pub(crate) const EVERYBODY: Set = Set { flags: [true; 8] };
+
     /// Whether the station is a member.
     pub fn holds(self, station: u8) -> bool {
         self.flags

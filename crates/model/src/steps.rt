@@ -14,7 +14,8 @@ pub enum Act {
     Mark(Outcome),
 }
 
-/// What becomes of an entry after the last act.
+/// What becomes of an entry after the last act. No Option of an Option, whose two kinds of None would not say which is
+/// which.
 #[derive(Clone, Copy, PartialEq, Eq, Debug)]
 pub enum Then {
     Stays,
@@ -31,21 +32,9 @@ pub struct Step {
 }
 
 impl Step {
-    /// Adds the act of writing a record.
-    fn write(&mut self, kind: Kind, argument: u8) -> Result<(), AllocError> {
-        self.acts.push(Act::Write(kind, argument))?;
-        Ok(())
-    }
-
-    /// Adds the act of a force.
-    fn force(&mut self) -> Result<(), AllocError> {
-        self.acts.push(Act::Force)?;
-        Ok(())
-    }
-
-    /// Adds the act of posting one message.
-    fn post(&mut self, word: Word, receiver: u8) -> Result<(), AllocError> {
-        self.acts.push(Act::Post(word, receiver))?;
+    /// Adds an act.
+    fn act(&mut self, act: Act) -> Result<(), AllocError> {
+        self.acts.push(act)?;
         Ok(())
     }
 
@@ -72,8 +61,8 @@ impl Model {
     pub(crate) fn open_vote(&self, entry: Entry, set: Set) -> Result<Step, AllocError> {
         let mut step = self.rest(entry);
         if self.presumption.opens {
-            step.write(Kind::Opening, u8::from(set))?;
-            step.force()?;
+            step.act(Act::Write(Kind::Opening, u8::from(set)))?;
+            step.act(Act::Force)?;
         }
         step.post_each(Word::Prepare, set)?;
         step.then = Then::Turns(Holding::Collecting(set, Set::default()));
@@ -83,10 +72,10 @@ impl Model {
     /// DecideCommit.
     fn decide_commit(&self, entry: Entry, set: Set) -> Result<Step, AllocError> {
         let mut step = self.rest(entry);
-        step.write(Kind::Commit, u8::from(set))?;
-        step.force()?;
+        step.act(Act::Write(Kind::Commit, u8::from(set)))?;
+        step.act(Act::Force)?;
         step.post_each(Word::Commit, set)?;
-        step.then = if self.presumption.acknowledges(Outcome::Commit) {
+        step.then = if self.presumption.handling(Outcome::Commit).acknowledged {
             Then::Turns(Holding::Announcing(Outcome::Commit, set))
         } else {
             Then::Goes
@@ -103,16 +92,16 @@ impl Model {
     ) -> Result<Step, AllocError> {
         let mut step = self.rest(entry);
         if self.presumption.abort_logging != AbortLogging::NotAtAll {
-            step.write(Kind::Abort, u8::from(set))?;
+            step.act(Act::Write(Kind::Abort, u8::from(set)))?;
         }
         if self.presumption.abort_logging == AbortLogging::Forced {
-            step.force()?;
+            step.act(Act::Force)?;
         }
         step.post_each(Word::Abort, told)?;
         step.then = Then::Goes;
-        if self.presumption.acknowledges(Outcome::Abort) {
+        if self.presumption.handling(Outcome::Abort).acknowledged {
             if told.size() == 0 {
-                step.write(Kind::End, 0)?;
+                step.act(Act::Write(Kind::End, 0))?;
             } else {
                 step.then = Then::Turns(Holding::Announcing(Outcome::Abort, told));
             }
@@ -135,7 +124,7 @@ impl Model {
     /// Inquire.
     pub(crate) fn inquiring(&self, entry: Entry, coordinator: u8) -> Result<Step, AllocError> {
         let mut step = self.rest(entry);
-        step.post(Word::Inquiry, coordinator)?;
+        step.act(Act::Post(Word::Inquiry, coordinator))?;
         Ok(step)
     }
 
@@ -147,8 +136,8 @@ impl Model {
     /// Enforce.
     fn enforce(&self, entry: Entry, outcome: Outcome, coordinator: u8) -> Result<Step, AllocError> {
         let mut step = self.finishing(entry, outcome, coordinator)?;
-        if self.presumption.acknowledges(outcome) {
-            step.post(Word::Ack, coordinator)?;
+        if self.presumption.handling(outcome).acknowledged {
+            step.act(Act::Post(Word::Ack, coordinator))?;
         }
         Ok(step)
     }
@@ -161,14 +150,14 @@ impl Model {
         coordinator: u8,
     ) -> Result<Step, AllocError> {
         let mut step = self.rest(entry);
-        step.acts.push(Act::Mark(outcome))?;
+        step.act(Act::Mark(outcome))?;
         let kind = match outcome {
             Outcome::Commit => Kind::Committed,
             Outcome::Abort => Kind::Aborted,
         };
-        step.write(kind, coordinator)?;
-        if self.presumption.forces(outcome) {
-            step.force()?;
+        step.act(Act::Write(kind, coordinator))?;
+        if self.presumption.handling(outcome).forced {
+            step.act(Act::Force)?;
         }
         step.then = Then::Goes;
         Ok(step)
@@ -196,14 +185,14 @@ impl Model {
     fn met_by_prepare(&self, entry: Entry, sender: u8) -> Result<Step, AllocError> {
         let mut step = self.rest(entry);
         match self.holding(entry) {
-            None => step.post(Word::No, sender)?,
+            None => step.act(Act::Post(Word::No, sender))?,
             Some(Holding::Active(coordinator)) => {
-                step.write(Kind::Prepared, coordinator)?;
-                step.force()?;
-                step.post(Word::Yes, sender)?;
+                step.act(Act::Write(Kind::Prepared, coordinator))?;
+                step.act(Act::Force)?;
+                step.act(Act::Post(Word::Yes, sender))?;
                 step.then = Then::Turns(Holding::Prepared(coordinator));
             }
-            Some(_) => step.post(Word::Yes, sender)?,
+            Some(_) => step.act(Act::Post(Word::Yes, sender))?,
         }
         Ok(step)
     }
@@ -216,9 +205,9 @@ impl Model {
         outcome: Outcome,
     ) -> Result<Step, AllocError> {
         match self.holding(entry) {
-            None if self.presumption.acknowledges(outcome) => {
+            None if self.presumption.handling(outcome).acknowledged => {
                 let mut step = self.rest(entry);
-                step.post(Word::Ack, sender)?;
+                step.act(Act::Post(Word::Ack, sender))?;
                 Ok(step)
             }
             Some(Holding::Active(coordinator)) if outcome == Outcome::Abort => self.enforce(
@@ -266,7 +255,7 @@ impl Model {
         {
             let left = awaited.without(sender);
             if left.size() == 0 {
-                step.write(Kind::End, 0)?;
+                step.act(Act::Write(Kind::End, 0))?;
                 step.then = Then::Goes;
             } else {
                 step.then = Then::Turns(Holding::Announcing(outcome, left));
@@ -279,8 +268,11 @@ impl Model {
     fn met_by_inquiry(&self, entry: Entry, sender: u8) -> Result<Step, AllocError> {
         let mut step = self.rest(entry);
         match self.holding(entry) {
-            None => step.post(Word::from(self.presumption.presumed), sender)?,
-            Some(Holding::Announcing(outcome, _)) => step.post(Word::from(outcome), sender)?,
+            None => step.act(Act::Post(Word::from(self.presumption.presumed), sender))?,
+            Some(Holding::Announcing(outcome, _)) => step.act(Act::Post(
+                Word::from(outcome),
+                sender,
+            ))?,
             Some(_) => {}
         }
         Ok(step)

@@ -1,6 +1,6 @@
 //! The run as one flat struct, and its calls.
 
-use super::sections::Log;
+use super::sections::{CAPACITY, Log};
 use super::sets::{STATIONS, Set};
 use super::steps::{Act, Step, Then};
 use super::words::{
@@ -15,11 +15,15 @@ const REVISIONS: u16 = 32;
 /// How many messages wait at most.
 const WAITING: usize = 64;
 
+/// So many deliveries empty the post at most: no message has a weight over 18.
+const MOST_DELIVERIES: usize = WAITING * 18;
+
 /// A run: its presumption, who is dark, the entries that are not none, the post, the as-run log and the journal. The
 /// entries are a list and no map, since `compare` draws calls from them by their order, which a map would change.
 #[derive(Drop)]
 pub struct Model {
     pub presumption: Presumption,
+    /// A flag, since a run that is not fit is still looked at.
     pub fit: bool,
     pub dark: Set,
     pub parts: Vec<Part>,
@@ -33,7 +37,7 @@ impl Model {
     /// A fresh run over a journal.
     pub fn new(heap: Global, presumption: Presumption, log: Log) -> Model {
         let served = log.served();
-        let roomy = (0..served).all(|station| log.capacity(station) >= 160);
+        let roomy = (0..served).all(|station| log.capacity(station) >= CAPACITY);
         Model {
             presumption,
             fit: served >= 2 && roomy && log.lines.is_empty(),
@@ -60,7 +64,7 @@ impl Model {
                 Answer::Zero
             }
             Verb::Cut => {
-                self.cut(call.station, call.outage.kept)?;
+                self.cut(call.station, call.outage.kept);
                 Answer::Zero
             }
             Verb::Restart => {
@@ -111,6 +115,7 @@ impl Model {
 
     /// The call open, once its questions are asked. Answers the new revision's number.
     fn open(&mut self, coordinator: u8, set: Set) -> Result<u16, Failure> {
+        // Asked before the call, so there is one.
         let revision = self.next_revision().ok_or(Refusal::TooManyRevisions)?;
         self.rows.push(Row {
             coordinator,
@@ -130,12 +135,13 @@ impl Model {
     /// The five calls that set off a step of their acting station, once their questions are asked. Answers the acts
     /// done.
     fn set_off(&mut self, call: &Call) -> Result<usize, Failure> {
+        // Asked before the call, so neither is refused here.
         let entry = self.acting(call).ok_or(Refusal::NotOpened)?;
         let step = match self.holding(entry).ok_or(Refusal::EntryForbids)? {
             Holding::Opened(set) if call.verb == Verb::Close => self.open_vote(entry, set)?,
             holding => self.moving_on(entry, holding)?,
         };
-        self.carry_out(&step, call.outage)
+        Ok(self.carry_out(&step, call.outage)?)
     }
 
     /// The step of the call, other than close, that an entry allows.
@@ -152,13 +158,13 @@ impl Model {
 
     /// Does the acts of a step as long as power lasts, and then either cuts the acting station or changes its entry.
     /// Answers the acts done.
-    fn carry_out(&mut self, step: &Step, outage: Outage) -> Result<usize, Failure> {
+    fn carry_out(&mut self, step: &Step, outage: Outage) -> Result<usize, AllocError> {
         let lasting = usize::from(outage.after);
         for act in step.acts.iter().take(lasting) {
             self.do_act(step.entry, *act)?;
         }
         if lasting < step.acts.len() {
-            self.cut(step.entry.station, outage.kept)?;
+            self.cut(step.entry.station, outage.kept);
             return Ok(lasting);
         }
         match step.then {
@@ -169,8 +175,8 @@ impl Model {
         Ok(step.acts.len())
     }
 
-    /// Does one act.
-    fn do_act(&mut self, entry: Entry, act: Act) -> Result<(), Failure> {
+    /// Does one act. A write or a force that the journal refuses is an act all the same, and the step goes on.
+    fn do_act(&mut self, entry: Entry, act: Act) -> Result<(), AllocError> {
         let station = entry.station;
         let revision = entry.revision;
         match act {
@@ -180,9 +186,13 @@ impl Model {
                     revision,
                     argument,
                 };
-                self.log.write(station, what)?;
+                if self.log.write(station, what) == Err(Failure::Memory) {
+                    return Err(AllocError);
+                }
             }
-            Act::Force => self.log.force(station)?,
+            Act::Force => {
+                let _ = self.log.force(station);
+            }
             // What is posted while so many wait is lost, and an act all the same.
             Act::Post(_, _) if self.post.len() >= WAITING => {}
             Act::Post(word, receiver) => self.post.push(Message {
@@ -203,7 +213,7 @@ impl Model {
         Ok(())
     }
 
-    /// Takes the message at a place out of the post.
+    /// Takes the message at a place out of the post. That one waits there was asked before.
     fn take_out(&mut self, place: usize) -> Result<Message, Refusal> {
         if place < self.post.len() {
             Ok(self.post.remove(place))
@@ -214,6 +224,7 @@ impl Model {
 
     /// The call deliver, once its questions are asked. Answers the acts done.
     fn deliver(&mut self, place: usize, copy: bool, outage: Outage) -> Result<usize, Failure> {
+        // Asked before the call, and by settle too, so a message waits there.
         let message = if copy {
             self.post.get(place).copied().ok_or(Refusal::NoMessage)?
         } else {
@@ -223,15 +234,14 @@ impl Model {
             return Ok(0);
         }
         let step = self.met_by(message)?;
-        self.carry_out(&step, outage)
+        Ok(self.carry_out(&step, outage)?)
     }
 
-    /// A power cut.
-    fn cut(&mut self, station: u8, kept: u8) -> Result<(), Refusal> {
-        self.log.cut(station, usize::from(kept))?;
+    /// A power cut. It is one all the same where the journal refuses it.
+    fn cut(&mut self, station: u8, kept: u8) {
+        let _ = self.log.cut(station, usize::from(kept));
         self.parts.retain(|part| part.entry.station != station);
         self.dark = self.dark.with(station);
-        Ok(())
     }
 
     /// Power returns, and the entries come from the stable list.
@@ -277,7 +287,7 @@ impl Model {
         .into_iter()
         .find_map(|(kind, outcome)| self.on_record(entry, kind).map(|set| (outcome, set)))?;
         let ended = self.on_record(entry, Kind::End).is_some();
-        let awaits = self.presumption.acknowledges(outcome) && !ended;
+        let awaits = self.presumption.handling(outcome).acknowledged && !ended;
         awaits.then_some(Holding::Announcing(outcome, Set::from(set)))
     }
 
@@ -293,6 +303,7 @@ impl Model {
     /// The call settle, once its questions are asked. Answers the deliveries made.
     fn settle(&mut self) -> Result<usize, Failure> {
         let mut made = self.drain()?;
+        // By number, since settling changes the model while it goes through the rows.
         for revision in 0..REVISIONS {
             let Some(coordinating) = self.coordinating(revision) else {
                 return Ok(made);
@@ -319,16 +330,16 @@ impl Model {
         self.drain()
     }
 
-    /// Delivers the first message until none waits. Answers how many it delivered; 64 messages of the greatest weight
-    /// 18 are no more than 1152 deliveries.
+    /// Delivers the first message until none waits. Answers how many it delivered.
     fn drain(&mut self) -> Result<usize, Failure> {
-        for made in 0..1152usize {
+        // Counted, since only the bound shows that the deliveries end.
+        for made in 0..MOST_DELIVERIES {
             if self.post.is_empty() {
                 return Ok(made);
             }
             self.deliver(0, false, Outage::NEVER)?;
         }
-        Ok(1152)
+        Ok(MOST_DELIVERIES)
     }
 
     /// Everybody whom the revision's coordinator has not yet heard from.

@@ -155,58 +155,59 @@ pub enum AbortLogging {
     Forced,
 }
 
-/// The answers of a presumption to its five questions.
+/// What subordinates do about an outcome: whether they post ACK for it, and whether they force their record of it.
+#[derive(Clone, Copy, PartialEq, Eq, Debug)]
+pub struct Handling {
+    pub acknowledged: bool,
+    pub forced: bool,
+}
+
+/// The answers of a presumption to its five questions, two of which are asked of each outcome.
 #[derive(Clone, Copy, PartialEq, Eq, Debug)]
 pub struct Presumption {
     pub presumed: Outcome,
     pub opens: bool,
-    pub acknowledges_commit: bool,
-    pub acknowledges_abort: bool,
-    pub forces_commit: bool,
-    pub forces_abort: bool,
+    pub commit: Handling,
+    pub abort: Handling,
     pub abort_logging: AbortLogging,
 }
 
-/// Presumed abort.
-pub fn presumed_abort() -> Presumption {
-    Presumption {
+impl Presumption {
+    /// Presumed abort.
+    pub const ABORT: Presumption = Presumption {
         presumed: Outcome::Abort,
         opens: false,
-        acknowledges_commit: true,
-        acknowledges_abort: false,
-        forces_commit: true,
-        forces_abort: false,
+        commit: Handling {
+            acknowledged: true,
+            forced: true,
+        },
+        abort: Handling {
+            acknowledged: false,
+            forced: false,
+        },
         abort_logging: AbortLogging::Unforced,
-    }
-}
+    };
 
-/// Presumed commit.
-pub fn presumed_commit() -> Presumption {
-    Presumption {
+    /// Presumed commit.
+    pub const COMMIT: Presumption = Presumption {
         presumed: Outcome::Commit,
         opens: true,
-        acknowledges_commit: false,
-        acknowledges_abort: true,
-        forces_commit: false,
-        forces_abort: true,
+        commit: Handling {
+            acknowledged: false,
+            forced: false,
+        },
+        abort: Handling {
+            acknowledged: true,
+            forced: true,
+        },
         abort_logging: AbortLogging::NotAtAll,
-    }
-}
+    };
 
-impl Presumption {
-    /// Whether subordinates post ACK for the outcome.
-    pub fn acknowledges(&self, outcome: Outcome) -> bool {
+    /// What subordinates do about an outcome.
+    pub fn handling(&self, outcome: Outcome) -> Handling {
         match outcome {
-            Outcome::Commit => self.acknowledges_commit,
-            Outcome::Abort => self.acknowledges_abort,
-        }
-    }
-
-    /// Whether subordinates force their record of the outcome.
-    pub fn forces(&self, outcome: Outcome) -> bool {
-        match outcome {
-            Outcome::Commit => self.forces_commit,
-            Outcome::Abort => self.forces_abort,
+            Outcome::Commit => self.commit,
+            Outcome::Abort => self.abort,
         }
     }
 }
@@ -249,7 +250,7 @@ pub enum Holding {
 
 impl Holding {
     /// Whether the entry allows one of the five calls that start from an entry.
-    pub(crate) fn allows(&self, verb: Verb) -> bool {
+    pub fn allows(&self, verb: Verb) -> bool {
         match self {
             Holding::Opened(_) => verb == Verb::Close || verb == Verb::GiveUp,
             Holding::Collecting(_, _) => verb == Verb::GiveUp,
@@ -310,6 +311,9 @@ impl Outage {
 
 /// A call with whatever arguments it takes; those that it does not take play no part. `station` is the coordinator
 /// of an open, and `outage` says how many records a cut keeps.
+///
+/// No enum of calls: each question reads one argument of many calls, and compare draws all arguments of whatever call
+/// comes.
 #[derive(Clone, Copy, PartialEq, Eq, Debug)]
 pub struct Call {
     pub verb: Verb,
