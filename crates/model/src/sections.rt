@@ -24,8 +24,8 @@ pub struct Log {
 }
 
 impl Log {
-    /// A journal for so many stations, with the same capacity each, all lists empty. It serves none where
-    /// they are too many.
+    /// A journal for so many stations, with the same capacity each, all lists empty. It serves none where they are too
+    /// many.
     pub fn even(heap: Global, stations: u8, capacity: usize) -> Log {
         let served = if stations > MOST_STATIONS {
             0
