@@ -14,7 +14,8 @@ use station::messages::{Message, MessageKind};
 use station::sets::StationSet;
 use station::subordinate::GivenVote;
 
-// No type can name a station: a token has it as a field, and what spends the token asks that it is the one that acts.
+// No type can name a station: a token has it as a field, and what spends the token asks that this station is the one
+// that acts.
 
 /// A record was written that must be forced. Not `Drop`: only a force or a power cut spends it.
 pub(crate) struct Debt {

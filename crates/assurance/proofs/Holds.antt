@@ -1,5 +1,5 @@
 -- What holds of the ideal run, said of a run.
-use Rattle.std.proofs.Common.{◌≡◌, ℕ, zero, suc, ◌+◌, ◌*◌, ◌^◌, ◌<◌, ◌≤◌, Bool, true, false, cond, not, ◌&&◌, eqb, ltb, leb, ◌↔◌, List, [], ◌∷◌, map, length, sym, refl, ap, ◌∙◌, subst, inl, inr, mul-le-mul_right, arith}
+use Rattle.std.proofs.Common.{◌≡◌, ℕ, zero, suc, ◌+◌, ◌*◌, ◌^◌, ◌<◌, ◌≤◌, Bool, true, false, cond, not, ◌&&◌, eqb, ltb, leb, ◌↔◌, List, [], ◌∷◌, map, length, Result, sym, refl, ap, ◌∙◌, subst, inl, inr, mul-le-mul_right, arith}
 use Rattle.std.proofs.lemmas.Bool.{cond-true, cond-false, cases_lt, eqb-true, and_parts, ltb-true, leb-true, le-ltb, lt-ltb}
 use Rattle.std.proofs.lemmas.List.{get_or_past, nil_from_length}
 use Rattle.std.specs.List.{AllByRecursion, range_with_len}
@@ -24,7 +24,11 @@ use Rattle.run.specs.Calls.{reply, refuse, coordinator_of}
 use Rattle.assurance.specs.declared.calls.Call.{Call}
 use Rattle.assurance.specs.declared.calls.Call.TheVariants.{Open, Close, Settle}
 use Rattle.assurance.specs.Lists.{lasting, called, after_calls}
+use Rattle.run.specs.Runs.{Shown}
 use Rattle.run.specs.Settling.{settled}
+use Rattle.assurance.specs.Played.{AllPerformed}
+use Rattle.assurance.specs.declared.calls.Value.{Value}
+use Rattle.run.specs.declared.refusals.Refusal.{Refusal}
 use Rattle.run.specs.State.{ready, all_ready, fresh}
 use Rattle.stations.specs.Stations.{no_entries, entries_for, blank, all_power}
 use Rattle.stations.specs.declared.Entries.{Entries}
@@ -264,3 +268,7 @@ module _ (π : Answers) (𝓗 : Lawful π) (m : List Section) (ok : fits m ≡ t
 
 pub one_outcome : OneOutcome
 one_outcome π h m ok = (all_sound π h m ok, four_each π h m ok)
+
+-- a list that was performed on a new run leaves a sound one
+pub sound_performed : {P : Type 0} {asked : P → Answers} {cs : List Call} {run left : Shown P} {xs : List (Result Value Refusal)} {p : P} {m : List Section} → Lawful (asked p) → fits m ≡ true → run.presumption ≡ p → run.state ≡ fresh m → AllPerformed asked cs run left xs → Sound (asked p) left.state
+sound_performed {asked = asked} {cs = cs} {p = p} {m = m} h ok same new d = rw (d.state, new, same) ((one_outcome (asked p) h m ok).0 cs)

@@ -13,7 +13,7 @@ const RECOVERY: usize = 12;
 const FLOOD_OPENS: usize = 34;
 
 /// The turn at which a flood has closed all revisions.
-const FLOOD_OVER: usize = 66;
+const FLOOD_OVER: usize = FLOOD_OPENS + 32;
 
 /// What comes in place of a call that takes a message where none waits: mostly what can post something.
 const OTHERS: [Verb; 6] = [

@@ -21,7 +21,7 @@ const SPECIAL_CALLS: usize = 40;
 /// So many times each style is played over each ground under each presumption.
 const ROUNDS: usize = 8;
 
-/// A section for 160 records takes so many bytes.
+/// A section for 160 records takes so many bytes: a number of its own, so that no constant of the engine hides an error.
 const SECTION: usize = 644;
 
 /// How bytes begin that are used: station 0 has a stable opening record, of revision 0 and the set {1}.

@@ -9,6 +9,8 @@ use run::run::Run;
 use station::coordinator::CoordinatorEntry;
 use station::subordinate::SubordinateEntry;
 
+// Run and model, journal and log stay two parameters each: a comparison has two sides, and names both.
+
 // How many entries of a station the engine has that are not none, for the revisions opened and one past them.
 fn entries_of<J: Journal, P: Presumption>(run: &Run<J, P>, station: u8, opened: u16) -> usize {
     let stations = run.stations();
@@ -40,6 +42,7 @@ fn agree_on_stations<J: Journal, P: Presumption>(
         };
         spot.agree(engine, part.holding)?;
     }
+    // There are no more rows than revisions, so the other value is never taken.
     let opened = u16::try_from(model.rows.len()).unwrap_or(u16::MAX);
     for station in 0..served {
         let power = Spot::of("power").at(station);

@@ -10,7 +10,8 @@ pub trait Journal {
     // One section for each station served, in the order of their numbers.
     ghost meaning: { Self → List Section };
 
-    // The ghost names of what the journal borrows to write to; no call changes them.
+    // The ghost names of what the journal borrows to write to. No call changes them, as each of them says, since a trait
+    // has no clause over all its calls.
     ghost lenders: { Self → List ℕ };
 
     /// How many stations are served.

@@ -12,12 +12,13 @@ use run::run::Run;
 use station::sets::StationSet;
 use std::io;
 
-/// More deliveries than a post can call for: 18 for each of the 64 messages that can wait.
+/// More deliveries than a post can call for: 18 for each of the 64 messages that can wait, a number that the actor keeps
+/// to itself.
 const MOST_DELIVERIES: u16 = 64 * 18;
 
 /// A run, and where it is told.
 #[derive(Drop)]
-pub struct Rehearsal<'a, R, J: Journal, P: Presumption> {
+pub struct Rehearsal<'a, R, J: Journal, P> {
     rt: &'a R,
     run: Run<J, P>,
 }

@@ -16,7 +16,7 @@ use std::fmt;
 pub struct Shown<T>(pub T);
 
 /// What a call did that was not refused.
-/// A copy of less than assurance's Value: a rehearsal needs nothing of that crate, whose calls no constant can hold.
+/// Less than assurance's Value: a rehearsal needs nothing of that crate, whose calls no constant can hold.
 #[derive(Clone, Copy, Debug, PartialEq, Eq)]
 pub enum Done {
     /// It opened this revision.

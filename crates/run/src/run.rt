@@ -24,7 +24,7 @@ use std::marker::Model;
 pub const LEAST_CAPACITY: usize = 160;
 
 /// 2 to 8 stations with a journal, the post between them and the as-run log.
-// J is a journal, since the view reads what it means; only Run::new makes a run, and asked for a journal before.
+// J is a journal, since the view reads what it means; only Run::new makes a run, and it asks for a journal anyway.
 #[derive(Drop)]
 pub struct Run<J: Journal, P> {
     actor: Actor<J>,
@@ -90,6 +90,7 @@ impl<J: Journal, P: Presumption> Run<J, P> {
     }
 
     // A step under a fuse, and then the entry changes; a power cut leaves the station dark. Answers the acts done.
+    // Five arguments: a struct of them would be made only to be taken apart at once, as one of the three of `new` would.
     #[tactic(auto, unfolding(crate::specs::State::stepped, actor::specs::Store::answer_under_fuse, actor::specs::Store::done_under_fuse))]
     fn take_step(&mut self, station: u8, revision: u16, step: Step, turn: Turn, fuse: Fuse) -> u8
         ensures { LeadsTo (moved (P.answers self.old.presumption) station revision (move step turn) fuse.acts fuse.kept)

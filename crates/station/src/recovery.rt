@@ -11,8 +11,8 @@ use journal::records::{Kind, Record};
 use presumption::Presumption;
 use presumption::outcome::Outcome;
 
-// Journal, station and revision stay side by side: a struct that borrows the journal makes the file longer, and of what
-// the closures below answer from it nothing is inferred.
+// Journal, station and revision stay side by side: a struct that borrows the journal makes the file longer, and the
+// prover infers nothing of what the closures below answer from it.
 
 // The stable record at a place, if it is of that kind and for that revision.
 fn read_of<J: Journal>(

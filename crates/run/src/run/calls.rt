@@ -27,6 +27,7 @@ pub(crate) fn check(yes: bool, refusal: Refusal) -> Result<(), Refusal>
     if yes { Ok(()) } else { Err(refusal) }
 }
 
+// Arguments stay apart and in the order in which the calls are written: revision and station, coordinator and set.
 impl<J: Journal, P: Presumption> Run<J, P> {
     // The row of a revision that was opened.
     fn opened_row(&self, revision: u16) -> Result<Row, Refusal>
