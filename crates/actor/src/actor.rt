@@ -61,7 +61,8 @@ impl<J: Journal> Actor<J> {
 
     /// The revision's row of the as-run log, if it was opened.
     pub fn row(&self, revision: u16) -> Option<Row>
-        ensures { result ≡ slice_get (store_of J.meaning self.now).log revision }
+        ensures value { result ≡ slice_get (store_of J.meaning self.now).log revision }
+        ensures few { length (store_of J.meaning self.now).log ≤ most_revisions }
     {
         self.log.row(revision)
     }
@@ -91,7 +92,8 @@ impl<J: Journal> Actor<J> {
 
     /// The message that waits at a place.
     pub fn message(&self, place: usize) -> Option<Message>
-        ensures { result ≡ slice_get (store_of J.meaning self.now).post place }
+        ensures value { result ≡ slice_get (store_of J.meaning self.now).post place }
+        ensures few { length (store_of J.meaning self.now).post ≤ most_waiting }
     {
         self.post.message(place)
     }

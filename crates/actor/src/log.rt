@@ -38,7 +38,7 @@ pub struct Log {
     rows: Vec<Row>,
 }
 
-// A clause sees the rows, and not the invariant: callers know that they are few by the clause of `len`.
+// A clause sees the rows, and not the invariant: callers know that they are few by the clauses `few`.
 impl Model for Log {
     ghost use Rattle.std.specs.Prelude.{◌≤◌, List, length, vec_capacity};
     ghost use Rattle.station.specs.Limits.{most_revisions};
@@ -71,7 +71,8 @@ impl Log {
 
     /// The revision's row, if it was opened.
     pub fn row(&self, revision: u16) -> Option<Row>
-        ensures { result ≡ slice_get self.now revision }
+        ensures value { result ≡ slice_get self.now revision }
+        ensures few { length self.now ≤ most_revisions }
     {
         self.rows.get(usize::from(revision)).copied()
     }

@@ -17,7 +17,7 @@ pub struct Post {
     messages: Vec<Message>,
 }
 
-// A clause sees the messages that wait, and not the invariant: callers know that they are few by the clause of `len`.
+// A clause sees the messages that wait, and not the invariant: callers know that they are few by the clauses `few`.
 impl Model for Post {
     ghost use Rattle.std.specs.Prelude.{◌≤◌, List, length, vec_capacity};
     ghost use Rattle.actor.specs.Post.{most_waiting};
@@ -50,7 +50,8 @@ impl Post {
 
     /// The message that waits at a place.
     pub fn message(&self, place: usize) -> Option<Message>
-        ensures { result ≡ slice_get self.now place }
+        ensures value { result ≡ slice_get self.now place }
+        ensures few { length self.now ≤ most_waiting }
     {
         self.messages.get(place).copied()
     }
