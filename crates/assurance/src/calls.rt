@@ -2,7 +2,7 @@
 ghost use Rattle.std.specs.Prelude.{IfOk};
 ghost use Rattle.assurance.specs.Lists.{called};
 ghost use Rattle.assurance.specs.Values.{reported, Suits};
-ghost use Rattle.run.specs.Runs.{LeadsTo};
+ghost use Rattle.run.specs.Runs.{seen, shown, LeadsTo};
 
 use journal::calls::Journal;
 use presumption::Presumption;
@@ -82,8 +82,9 @@ pub fn perform<J: Journal, P: Presumption>(
     run: &mut Run<J, P>,
     call: Call,
 ) -> Result<Value, Refusal>
-    ensures call { LeadsTo (called (P.answers run.old.presumption) call) run.old (reported result) run.new }
-    ensures suits { IfOk result (Suits call run.old.state) }
+    ensures call { LeadsTo (called (P.answers run.old.presumption) call)
+        (shown J.meaning run.old) (reported result) (shown J.meaning run.new) }
+    ensures suits { IfOk result (Suits call (seen J.meaning run.old)) }
 {
     match call {
         Call::Open { coordinator, set } => run.open(coordinator, set).map(Value::Revision),

@@ -5,6 +5,7 @@ ghost use Rattle.std.specs.Prelude.{◌≡◌, true, IfOk};
 ghost use Rattle.assurance.specs.Marked.{AllAsMarked};
 ghost use Rattle.assurance.specs.Outcomes.{Sound, OneOutcome};
 ghost use Rattle.assurance.specs.Played.{AllPerformed, new_run};
+ghost use Rattle.run.specs.Runs.{seen, shown};
 ghost use Rattle.run.specs.State.{fits};
 
 pub mod calls;
@@ -17,9 +18,8 @@ use run::run::Run;
 use std::alloc::{AllocError, Global};
 
 /// A run that was played, and what each call answered.
-// J is a journal, since a run is of one.
 #[derive(Drop)]
-pub struct Played<J: Journal, P> {
+pub struct Played<J, P> {
     pub run: Run<J, P>,
     pub answers: Vec<Result<Value, Refusal>>,
 }
@@ -30,7 +30,7 @@ fn perform_all<J: Journal, P: Presumption>(
     run: &mut Run<J, P>,
     calls: &[Call],
 ) -> Result<Vec<Result<Value, Refusal>>, AllocError>
-    ensures { IfOk result (λ xs. AllPerformed P.answers calls.now run.old run.new xs.items) }
+    ensures { IfOk result (λ xs. AllPerformed P.answers calls.now (shown J.meaning run.old) (shown J.meaning run.new) xs.items) }
 {
     // Pushed one by one: the contract of collect does not say how it leaves a run that its closure borrows.
     let mut answers = Vec::new(heap);
@@ -49,8 +49,8 @@ pub fn play<J: Journal + Drop, P: Presumption + Drop>(
     presumption: P,
     calls: &[Call],
 ) -> Result<Played<J, P>, AllocError>
-    ensures performed { IfOk result (λ x. AllPerformed P.answers calls.now (new_run presumption (J.meaning journal)) x.run x.answers.items) }
-    ensures sound { IfOk result (λ x. fits (J.meaning journal) ≡ true → Sound (P.answers presumption) x.run.state) }
+    ensures performed { IfOk result (λ x. AllPerformed P.answers calls.now (new_run presumption (J.meaning journal)) (shown J.meaning x.run) x.answers.items) }
+    ensures sound { IfOk result (λ x. fits (J.meaning journal) ≡ true → Sound (P.answers presumption) (seen J.meaning x.run)) }
     ensures outcome { OneOutcome }
     ensures marked { AllAsMarked }
 {

@@ -18,7 +18,7 @@ const MOST_DELIVERIES: u16 = 64 * 18;
 
 /// A run, and where it is told.
 #[derive(Drop)]
-pub struct Rehearsal<'a, R, J: Journal, P> {
+pub struct Rehearsal<'a, R, J, P> {
     rt: &'a R,
     run: Run<J, P>,
 }

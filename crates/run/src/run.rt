@@ -3,7 +3,7 @@ ghost use Rattle.std.specs.Prelude.{◌≡◌, IfOk};
 ghost use Rattle.journal.specs.Meaning.{section};
 ghost use Rattle.run.specs.Answers.{answered};
 ghost use Rattle.run.specs.Calls.{moved};
-ghost use Rattle.run.specs.Runs.{LeadsTo};
+ghost use Rattle.run.specs.Runs.{seen, shown, LeadsTo};
 ghost use Rattle.run.specs.State.{ready, all_ready, fits, fresh};
 ghost use Rattle.station.specs.Moves.{move};
 
@@ -18,37 +18,20 @@ use presumption::Presumption;
 use station::steps::Step;
 use stations::{Stations, Turn};
 use std::alloc::{AllocError, Global};
-use std::marker::Model;
 
 /// How many records a section must have room for.
 pub const LEAST_CAPACITY: usize = 160;
 
 /// 2 to 8 stations with a journal, the post between them and the as-run log.
-// J is a journal, since the view reads what it means; only Run::new makes a run, and it asks for a journal anyway.
+// No `Model`: its view would read what J means, and so ask that J is a journal of everything that only holds a run.
+// Clauses see a run as `shown`, and its state as `seen`.
 #[derive(Drop)]
-pub struct Run<J: Journal, P> {
+pub struct Run<J, P> {
     actor: Actor<J>,
     presumption: P,
     // A flag and no Option of the parts: a run that is not fit still shows its stations, its post and its journal.
     fit: bool,
     stations: Stations,
-}
-
-// A clause sees the presumption and the state.
-impl<J: Journal, P> Model for Run<J, P> {
-    ghost use Rattle.actor.specs.Actors.{store_of};
-    ghost use Rattle.run.specs.Runs.{Shown};
-
-    ghost Value = { Shown P };
-
-    ghost view = { λ x. record {
-      presumption = x.presumption;
-      state = record {
-        fit = x.fit;
-        store = store_of J.meaning x.actor;
-        stations = x.stations;
-      };
-    } };
 }
 
 // Is the station's section large enough and empty?
@@ -74,7 +57,7 @@ impl<J: Journal, P: Presumption> Run<J, P> {
     where
         J: Drop,
         P: Drop,
-        ensures state { IfOk result (λ x. x.state ≡ fresh (J.meaning journal)) }
+        ensures state { IfOk result (λ x. seen J.meaning x ≡ fresh (J.meaning journal)) }
         ensures presumes { IfOk result (λ x. x.presumption ≡ presumption) }
     {
         let count = journal.stations();
@@ -94,7 +77,7 @@ impl<J: Journal, P: Presumption> Run<J, P> {
     #[tactic(auto, unfolding(crate::specs::State::stepped, actor::specs::Store::answer_under_fuse, actor::specs::Store::done_under_fuse))]
     fn take_step(&mut self, station: u8, revision: u16, step: Step, turn: Turn, fuse: Fuse) -> u8
         ensures { LeadsTo (moved (P.answers self.old.presumption) station revision (move step turn) fuse.acts fuse.kept)
-            self.old (answered result) self.new }
+            (shown J.meaning self.old) (answered result) (shown J.meaning self.new) }
     {
         match self
             .actor

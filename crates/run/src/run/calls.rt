@@ -2,7 +2,7 @@
 ghost use Rattle.std.specs.Prelude.{◌≡◌, cond, [], ◌∷◌, Ok, Err, IfOk};
 ghost use Rattle.run.specs.Answers.{answer_of, plain_answer};
 ghost use Rattle.run.specs.Calls.{Asks, opened?, opened_questions, coordinator_questions, subordinate_questions, message_questions, coordinator_of, message_at, heard, if_allowed, open_call, close_call, give_up_call, chase_call, reject_call, inquire_call, deliver_call, lose_call, cut_call, restart_call};
-ghost use Rattle.run.specs.Runs.{LeadsTo};
+ghost use Rattle.run.specs.Runs.{seen, shown, LeadsTo};
 ghost use Rattle.actor.specs.Log.{row_at};
 ghost use Rattle.station.specs.Moves.{move};
 ghost use Rattle.station.specs.Recovery.{stable_records};
@@ -31,16 +31,16 @@ pub(crate) fn check(yes: bool, refusal: Refusal) -> Result<(), Refusal>
 impl<J: Journal, P: Presumption> Run<J, P> {
     // The row of a revision that was opened.
     fn opened_row(&self, revision: u16) -> Result<Row, Refusal>
-        ensures asked { Asks (opened? revision self.now.state ∷ []) result self.now.state }
-        ensures value { IfOk result (λ x. x ≡ row_at self.now.state.store.log revision) }
+        ensures asked { Asks (opened? revision (seen J.meaning self.now) ∷ []) result (seen J.meaning self.now) }
+        ensures value { IfOk result (λ x. x ≡ row_at (seen J.meaning self.now).store.log revision) }
     {
         self.actor.row(revision).ok_or(Refusal::NotOpened)
     }
 
     // The coordinator of a revision that was opened.
     pub(crate) fn opened_by(&self, revision: u16) -> Result<u8, Refusal>
-        ensures asked { Asks (opened_questions revision self.now.state) result self.now.state }
-        ensures value { IfOk result (λ c. c ≡ coordinator_of revision self.now.state) }
+        ensures asked { Asks (opened_questions revision (seen J.meaning self.now)) result (seen J.meaning self.now) }
+        ensures value { IfOk result (λ c. c ≡ coordinator_of revision (seen J.meaning self.now)) }
     {
         check(self.fit, Refusal::Unfit)?;
         Ok(self.opened_row(revision)?.coordinator)
@@ -48,8 +48,8 @@ impl<J: Journal, P: Presumption> Run<J, P> {
 
     // The coordinator of a revision that was opened, if it has power.
     fn coordinator_of(&self, revision: u16) -> Result<u8, Refusal>
-        ensures asked { Asks (coordinator_questions revision self.now.state) result self.now.state }
-        ensures value { IfOk result (λ c. c ≡ coordinator_of revision self.now.state) }
+        ensures asked { Asks (coordinator_questions revision (seen J.meaning self.now)) result (seen J.meaning self.now) }
+        ensures value { IfOk result (λ c. c ≡ coordinator_of revision (seen J.meaning self.now)) }
     {
         let coordinator = self.opened_by(revision)?;
         check(self.stations.power(coordinator), Refusal::NoPower)?;
@@ -58,7 +58,7 @@ impl<J: Journal, P: Presumption> Run<J, P> {
 
     // Asks all that a subordinate's call asks: fit, a station, a revision that was opened, power.
     fn check_subordinate(&self, revision: u16, station: u8) -> Result<(), Refusal>
-        ensures { Asks (subordinate_questions revision station self.now.state) result self.now.state }
+        ensures { Asks (subordinate_questions revision station (seen J.meaning self.now)) result (seen J.meaning self.now) }
     {
         check(self.fit, Refusal::Unfit)?;
         check(station < self.stations.len(), Refusal::NoSuchStation)?;
@@ -76,7 +76,7 @@ impl<J: Journal, P: Presumption> Run<J, P> {
         fuse: Fuse,
     ) -> Result<u8, Refusal>
         ensures { LeadsTo (if_allowed (P.answers self.old.presumption) station revision (option_map (λ x. move x turn) step) fuse.acts fuse.kept)
-            self.old (answer_of result) self.new }
+            (shown J.meaning self.old) (answer_of result) (shown J.meaning self.new) }
     {
         let step = step.ok_or(Refusal::EntryForbids)?;
         Ok(self.take_step(station, revision, step, turn, fuse))
@@ -88,7 +88,7 @@ impl<J: Journal, P: Presumption> Run<J, P> {
     /// Opens the vote on a revision: PREPARE goes to its set. Answers the acts done.
     pub fn close(&mut self, revision: u16, fuse: Fuse) -> Result<u8, Refusal>
         ensures { LeadsTo (close_call (P.answers self.old.presumption) revision fuse.acts fuse.kept)
-            self.old (answer_of result) self.new }
+            (shown J.meaning self.old) (answer_of result) (shown J.meaning self.new) }
     {
         let station = self.coordinator_of(revision)?;
         let mut entry = self.stations.coordinator(station, revision);
@@ -99,7 +99,7 @@ impl<J: Journal, P: Presumption> Run<J, P> {
     /// Gives a revision up: its set is told ABORT. Answers the acts done.
     pub fn give_up(&mut self, revision: u16, fuse: Fuse) -> Result<u8, Refusal>
         ensures { LeadsTo (give_up_call (P.answers self.old.presumption) revision fuse.acts fuse.kept)
-            self.old (answer_of result) self.new }
+            (shown J.meaning self.old) (answer_of result) (shown J.meaning self.new) }
     {
         let station = self.coordinator_of(revision)?;
         let mut entry = self.stations.coordinator(station, revision);
@@ -110,7 +110,7 @@ impl<J: Journal, P: Presumption> Run<J, P> {
     /// Tells the outcome again to those that have not acknowledged it. Answers the acts done.
     pub fn chase(&mut self, revision: u16, fuse: Fuse) -> Result<u8, Refusal>
         ensures { LeadsTo (chase_call (P.answers self.old.presumption) revision fuse.acts fuse.kept)
-            self.old (answer_of result) self.new }
+            (shown J.meaning self.old) (answer_of result) (shown J.meaning self.new) }
     {
         let station = self.coordinator_of(revision)?;
         let entry = self.stations.coordinator(station, revision);
@@ -121,7 +121,7 @@ impl<J: Journal, P: Presumption> Run<J, P> {
     /// A station drops a revision before the vote. Answers the acts done.
     pub fn reject(&mut self, revision: u16, station: u8, fuse: Fuse) -> Result<u8, Refusal>
         ensures { LeadsTo (reject_call (P.answers self.old.presumption) revision station fuse.acts fuse.kept)
-            self.old (answer_of result) self.new }
+            (shown J.meaning self.old) (answer_of result) (shown J.meaning self.new) }
     {
         self.check_subordinate(revision, station)?;
         let mut entry = self.stations.subordinate(station, revision);
@@ -132,7 +132,7 @@ impl<J: Journal, P: Presumption> Run<J, P> {
     /// A station in doubt asks the coordinator for the outcome. Answers the acts done.
     pub fn inquire(&mut self, revision: u16, station: u8, fuse: Fuse) -> Result<u8, Refusal>
         ensures { LeadsTo (inquire_call (P.answers self.old.presumption) revision station fuse.acts fuse.kept)
-            self.old (answer_of result) self.new }
+            (shown J.meaning self.old) (answer_of result) (shown J.meaning self.new) }
     {
         self.check_subordinate(revision, station)?;
         let entry = self.stations.subordinate(station, revision);
@@ -142,8 +142,8 @@ impl<J: Journal, P: Presumption> Run<J, P> {
 
     // The message that waits at a place.
     fn message_at(&self, place: usize) -> Result<Message, Refusal>
-        ensures asked { Asks (message_questions place self.now.state) result self.now.state }
-        ensures value { IfOk result (λ m. m ≡ message_at place self.now.state) }
+        ensures asked { Asks (message_questions place (seen J.meaning self.now)) result (seen J.meaning self.now) }
+        ensures value { IfOk result (λ m. m ≡ message_at place (seen J.meaning self.now)) }
     {
         check(self.fit, Refusal::Unfit)?;
         self.actor.message(place).ok_or(Refusal::NoMessage)
@@ -152,9 +152,9 @@ impl<J: Journal, P: Presumption> Run<J, P> {
     // What the receiver of a message has to do, and how its entry changes.
     fn hear(&self, message: Message) -> (Step, Turn)
         ensures step { result.0
-            ≡ (heard (P.answers self.now.presumption) self.now.state.stations message).step }
+            ≡ (heard (P.answers self.now.presumption) (seen J.meaning self.now).stations message).step }
         ensures turn { result.1
-            ≡ (heard (P.answers self.now.presumption) self.now.state.stations message).next }
+            ≡ (heard (P.answers self.now.presumption) (seen J.meaning self.now).stations message).next }
     {
         let station = message.receiver;
         let revision = message.revision;
@@ -173,7 +173,7 @@ impl<J: Journal, P: Presumption> Run<J, P> {
     /// Hands a waiting message to its receiver; with `copy` it waits on as well. Answers the acts done.
     pub fn deliver(&mut self, place: usize, copy: bool, fuse: Fuse) -> Result<u8, Refusal>
         ensures { LeadsTo (deliver_call (P.answers self.old.presumption) place copy fuse.acts fuse.kept)
-            self.old (answer_of result) self.new }
+            (shown J.meaning self.old) (answer_of result) (shown J.meaning self.new) }
     {
         let message = self.message_at(place)?;
         if !copy {
@@ -188,7 +188,8 @@ impl<J: Journal, P: Presumption> Run<J, P> {
 
     /// Loses a waiting message.
     pub fn lose(&mut self, place: usize) -> Result<(), Refusal>
-        ensures { LeadsTo (lose_call place) self.old (plain_answer result) self.new }
+        ensures { LeadsTo (lose_call place)
+            (shown J.meaning self.old) (plain_answer result) (shown J.meaning self.new) }
     {
         let _ = self.message_at(place)?;
         self.actor.remove(place);
@@ -197,7 +198,8 @@ impl<J: Journal, P: Presumption> Run<J, P> {
 
     /// The power fails at a station; of its unforced records so many are kept.
     pub fn cut(&mut self, station: u8, kept: u8) -> Result<(), Refusal>
-        ensures { LeadsTo (cut_call station kept) self.old (plain_answer result) self.new }
+        ensures { LeadsTo (cut_call station kept)
+            (shown J.meaning self.old) (plain_answer result) (shown J.meaning self.new) }
     {
         check(self.fit, Refusal::Unfit)?;
         check(station < self.stations.len(), Refusal::NoSuchStation)?;
@@ -210,7 +212,7 @@ impl<J: Journal, P: Presumption> Run<J, P> {
     // The station as its stable records rebuild it.
     fn rebuild(&self, station: u8) -> Station
         ensures { result
-            ≡ rebuilt (P.answers self.now.presumption) (stable_records self.now.state.store.journal station) }
+            ≡ rebuilt (P.answers self.now.presumption) (stable_records (seen J.meaning self.now).store.journal station) }
     {
         Station::rebuild(self.actor.journal(), &self.presumption, station)
     }
@@ -218,7 +220,7 @@ impl<J: Journal, P: Presumption> Run<J, P> {
     /// The power returns at a station, and its stable records rebuild its entries.
     pub fn restart(&mut self, station: u8) -> Result<(), Refusal>
         ensures { LeadsTo (restart_call (P.answers self.old.presumption) station)
-            self.old (plain_answer result) self.new }
+            (shown J.meaning self.old) (plain_answer result) (shown J.meaning self.new) }
     {
         check(self.fit, Refusal::Unfit)?;
         check(station < self.stations.len(), Refusal::NoSuchStation)?;
@@ -230,7 +232,8 @@ impl<J: Journal, P: Presumption> Run<J, P> {
 
     /// Opens a revision: the coordinator's entry becomes Open, each of the set Active. Answers its number.
     pub fn open(&mut self, coordinator: u8, set: StationSet) -> Result<u16, Refusal>
-        ensures { LeadsTo (open_call coordinator set) self.old (answer_of result) self.new }
+        ensures { LeadsTo (open_call coordinator set)
+            (shown J.meaning self.old) (answer_of result) (shown J.meaning self.new) }
     {
         check(self.fit, Refusal::Unfit)?;
         check(

@@ -3,7 +3,7 @@ ghost use Rattle.std.specs.Prelude.{◌≡◌, ◌≤◌, true, [], IfOk, OnOk};
 ghost use Rattle.journal.specs.Limits.{most_stations};
 ghost use Rattle.run.specs.Answers.{answer_of, awaited_answer};
 ghost use Rattle.run.specs.Calls.{Asks, reply, opened_questions, coordinator_entry, unheard_call};
-ghost use Rattle.run.specs.Runs.{LeadsTo};
+ghost use Rattle.run.specs.Runs.{seen, shown, LeadsTo};
 ghost use Rattle.run.specs.Settling.{Drained, Settles, load, drained, urged, inquired, finished, settled, settle_call};
 ghost use Rattle.station.specs.Coordinator.{unheard};
 ghost use Rattle.station.specs.Sets.{NamesOne};
@@ -28,8 +28,8 @@ pub struct Awaited {
 impl<J: Journal, P: Presumption> Run<J, P> {
     // The entry of the coordinator of a revision that was opened.
     fn opened_entry(&self, revision: u16) -> Result<CoordinatorEntry, Refusal>
-        ensures asked { Asks (opened_questions revision self.now.state) result self.now.state }
-        ensures value { IfOk result (λ e. e ≡ coordinator_entry revision self.now.state) }
+        ensures asked { Asks (opened_questions revision (seen J.meaning self.now)) result (seen J.meaning self.now) }
+        ensures value { IfOk result (λ e. e ≡ coordinator_entry revision (seen J.meaning self.now)) }
     {
         let coordinator = self.opened_by(revision)?;
         Ok(self.stations.coordinator(coordinator, revision))
@@ -37,8 +37,9 @@ impl<J: Journal, P: Presumption> Run<J, P> {
 
     /// A station that the coordinator of the revision has not heard from, and how many there are.
     pub fn awaited(&self, revision: u16) -> Result<Awaited, Refusal>
-        ensures reply { reply (awaited_answer result) self.now.state ≡ unheard_call revision self.now.state }
-        ensures station { IfOk result (λ a. NamesOne a.station (unheard (coordinator_entry revision self.now.state))) }
+        ensures reply { reply (awaited_answer result) (seen J.meaning self.now)
+            ≡ unheard_call revision (seen J.meaning self.now) }
+        ensures station { IfOk result (λ a. NamesOne a.station (unheard (coordinator_entry revision (seen J.meaning self.now)))) }
     {
         let unheard = self.opened_entry(revision)?.unheard();
         Ok(Awaited {
@@ -49,9 +50,10 @@ impl<J: Journal, P: Presumption> Run<J, P> {
 
     // Delivers the first message until none waits. Answers the deliveries made.
     fn drain(&mut self) -> usize
-        requires { self.old.state.fit ≡ true }
-        ensures settles { Settles (drained (P.answers self.old.presumption)) self.old result self.new }
-        ensures few { result ≤ load most_stations self.old.state.store.post }
+        requires { self.old.fit ≡ true }
+        ensures settles { Settles (drained (P.answers self.old.presumption))
+            (shown J.meaning self.old) result (shown J.meaning self.new) }
+        ensures few { result ≤ load most_stations (seen J.meaning self.old).store.post }
         ensures bounded { result ≤ 1152 }
     {
         let mut deliveries = 0;
@@ -65,8 +67,8 @@ impl<J: Journal, P: Presumption> Run<J, P> {
 
     // The coordinator of a revision gives up if it is Collecting, and chases if it is Announcing.
     fn urge(&mut self, revision: u16)
-        ensures state { self.new.state
-            ≡ urged (P.answers self.old.presumption) (coordinator_entry revision self.old.state) revision self.old.state }
+        ensures state { seen J.meaning self.new
+            ≡ urged (P.answers self.old.presumption) (coordinator_entry revision (seen J.meaning self.old)) revision (seen J.meaning self.old) }
         ensures presumes { self.new.presumption ≡ self.old.presumption }
     {
         match self.opened_entry(revision) {
@@ -82,8 +84,8 @@ impl<J: Journal, P: Presumption> Run<J, P> {
 
     // A station that is in doubt about a revision inquires.
     fn resolve(&mut self, revision: u16, station: u8)
-        ensures state { self.new.state
-            ≡ inquired (P.answers self.old.presumption) (subordinate_at self.old.state.stations station revision) revision station self.old.state }
+        ensures state { seen J.meaning self.new
+            ≡ inquired (P.answers self.old.presumption) (subordinate_at (seen J.meaning self.old).stations station revision) revision station (seen J.meaning self.old) }
         ensures presumes { self.new.presumption ≡ self.old.presumption }
     {
         if let SubordinateEntry::Prepared { .. } = self.stations.subordinate(station, revision) {
@@ -94,9 +96,9 @@ impl<J: Journal, P: Presumption> Run<J, P> {
     // Brings a revision to its end: its coordinator is urged, then each station in doubt inquires, ascending.
     // Answers the deliveries made.
     fn finish(&mut self, revision: u16) -> usize
-        requires { Drained self.old.state }
+        requires { Drained (seen J.meaning self.old) }
         ensures settles { Settles (finished (P.answers self.old.presumption) revision)
-            self.old result self.new }
+            (shown J.meaning self.old) result (shown J.meaning self.new) }
         ensures few { result ≤ 1024 }
     {
         let stations = self.stations.len();
@@ -112,9 +114,9 @@ impl<J: Journal, P: Presumption> Run<J, P> {
 
     // Empties the post and finishes each revision, ascending. Answers the deliveries made.
     fn finish_all(&mut self) -> usize
-        requires { self.old.state.fit ≡ true }
+        requires { self.old.fit ≡ true }
         ensures { Settles (λ x. settled (P.answers self.old.presumption) x.state)
-            self.old result self.new }
+            (shown J.meaning self.old) result (shown J.meaning self.new) }
     {
         // `as` is proved to lose nothing here, where `try_from` would bring in a failure.
         let revisions = self.actor.opened() as u16;
@@ -129,8 +131,8 @@ impl<J: Journal, P: Presumption> Run<J, P> {
     /// Empties the post and brings each revision to its end. Answers the number of deliveries.
     pub fn settle(&mut self) -> Result<usize, Refusal>
         ensures call { LeadsTo (settle_call (P.answers self.old.presumption))
-            self.old (answer_of result) self.new }
-        ensures emptied { OnOk result (self.new.state.store.post ≡ []) }
+            (shown J.meaning self.old) (answer_of result) (shown J.meaning self.new) }
+        ensures emptied { OnOk result ((seen J.meaning self.new).store.post ≡ []) }
     {
         check(self.fit, Refusal::Unfit)?;
         check(self.stations.all_have_power(), Refusal::NoPower)?;

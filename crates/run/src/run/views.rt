@@ -1,5 +1,6 @@
 //! What a run shows: questions that change nothing.
 ghost use Rattle.std.specs.Prelude.{◌≡◌, length};
+ghost use Rattle.run.specs.Runs.{seen};
 ghost use Rattle.stations.specs.Stations.{power_at, coordinator_at, subordinate_at};
 ghost use Rattle.std.specs.List.{slice_get};
 
@@ -15,7 +16,7 @@ use stations::Stations;
 impl<J: Journal, P: Presumption> Run<J, P> {
     /// The stations, with their power and their entries.
     pub fn stations(&self) -> &Stations
-        ensures { result.now ≡ self.now.state.stations }
+        ensures { result.now ≡ (seen J.meaning self.now).stations }
     {
         &self.stations
     }
@@ -24,49 +25,49 @@ impl<J: Journal, P: Presumption> Run<J, P> {
 
     /// Has the station power?
     pub fn power(&self, station: u8) -> bool
-        ensures { result ≡ power_at self.now.state.stations station }
+        ensures { result ≡ power_at (seen J.meaning self.now).stations station }
     {
         self.stations.power(station)
     }
 
     /// The station's coordinator entry for a revision.
     pub fn coordinator_entry(&self, station: u8, revision: u16) -> CoordinatorEntry
-        ensures { result ≡ coordinator_at self.now.state.stations station revision }
+        ensures { result ≡ coordinator_at (seen J.meaning self.now).stations station revision }
     {
         self.stations.coordinator(station, revision)
     }
 
     /// The station's subordinate entry for a revision.
     pub fn subordinate_entry(&self, station: u8, revision: u16) -> SubordinateEntry
-        ensures { result ≡ subordinate_at self.now.state.stations station revision }
+        ensures { result ≡ subordinate_at (seen J.meaning self.now).stations station revision }
     {
         self.stations.subordinate(station, revision)
     }
 
     /// The revision's row of the as-run log.
     pub fn as_run(&self, revision: u16) -> Option<Row>
-        ensures { result ≡ slice_get self.now.state.store.log revision }
+        ensures { result ≡ slice_get (seen J.meaning self.now).store.log revision }
     {
         self.actor.row(revision)
     }
 
     /// How many messages wait.
     pub fn waiting(&self) -> usize
-        ensures { result ≡ length self.now.state.store.post }
+        ensures { result ≡ length (seen J.meaning self.now).store.post }
     {
         self.actor.waiting()
     }
 
     /// The message that waits at a place.
     pub fn message(&self, place: usize) -> Option<Message>
-        ensures { result ≡ slice_get self.now.state.store.post place }
+        ensures { result ≡ slice_get (seen J.meaning self.now).store.post place }
     {
         self.actor.message(place)
     }
 
     /// The journal, to read.
     pub fn journal(&self) -> &J
-        ensures { J.meaning result.now ≡ self.now.state.store.journal }
+        ensures { J.meaning result.now ≡ (seen J.meaning self.now).store.journal }
     {
         self.actor.journal()
     }

@@ -1,6 +1,7 @@
 use Rattle.std.proofs.Common.{arith, rules}
 use Rattle.run.proofs.Settles.{adds_asking, urged_light, inquired_light, settles_then, going_more, going_done, finished_is, urging_first, settles_as}
 use Rattle.run.specs.Calls.{coordinator_entry}
+use Rattle.run.specs.Runs.{seen, shown}
 use Rattle.run.specs.Settling.{progress, urged, inquired}
 use Rattle.stations.specs.Stations.{subordinate_at}
 use Rattle.run.proofs.run.Run.finish.Goals as goal
@@ -32,4 +33,4 @@ returns-clause-settles g c =
     let π = g.P.Presumption.answers c.args.self.now.presumption in
     let r = c.args.revision in
     let first = settles_then g.P.Presumption.answers (λ π st. urged π (coordinator_entry r st) r st) c.urge.ensures.state c.urge.ensures.presumes c.drain-deliveries.ensures.settles in
-    settles_as (going_done c.loop-station.invariant c.loop-station-test.false c.args.self.now (urging_first π r) first) (finished_is π r c.len-stations.result (progress c.args.self.now.state 0) (search rules))
+    settles_as (going_done c.loop-station.invariant c.loop-station-test.false (shown g.J.Journal.meaning c.args.self.now) (urging_first π r) first) (finished_is π r c.len-stations.result (progress (seen g.J.Journal.meaning c.args.self.now) 0) (search rules))

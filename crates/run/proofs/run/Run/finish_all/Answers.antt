@@ -1,5 +1,6 @@
 use Rattle.std.proofs.Common.{rules}
 use Rattle.run.proofs.Settles.{adds_finished, going_more, going_done, settled_is, settles_as}
+use Rattle.run.specs.Runs.{seen, shown}
 use Rattle.run.specs.Settling.{drained}
 use Rattle.run.proofs.run.Run.finish_all.Goals as goal
 
@@ -9,4 +10,4 @@ loop-revision-preserved g c = going_more c.loop-revision.invariant c.loop-revisi
 pub returns : goal.returns
 returns g c =
     let π = g.P.Presumption.answers c.args.self.now.presumption in
-    settles_as (going_done c.loop-revision.invariant c.loop-revision-test.false c.args.self.now (drained π) c.drain-deliveries.ensures.settles) (settled_is π c.opened-revisions.result c.args.self.now.state (search rules))
+    settles_as (going_done c.loop-revision.invariant c.loop-revision-test.false (shown g.J.Journal.meaning c.args.self.now) (drained π) c.drain-deliveries.ensures.settles) (settled_is π c.opened-revisions.result (seen g.J.Journal.meaning c.args.self.now) (search rules))
