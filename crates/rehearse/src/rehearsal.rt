@@ -12,8 +12,8 @@ use run::run::Run;
 use station::sets::StationSet;
 use std::io;
 
-/// More deliveries than a post can call for: 18 for each of the 64 messages that can wait, a number that the actor keeps
-/// to itself.
+/// More deliveries than a post can call for: 18 for each of the 64 messages that can wait. The clause `few` of
+/// `Run::waiting` says that there are no more; as a constant the actor keeps the number to itself.
 const MOST_DELIVERIES: u16 = 64 * 18;
 
 /// A run, and where it is told.

@@ -1,6 +1,8 @@
 //! What a run shows: questions that change nothing.
-ghost use Rattle.std.specs.Prelude.{◌≡◌, length};
+ghost use Rattle.std.specs.Prelude.{◌≡◌, ◌≤◌, length};
+ghost use Rattle.actor.specs.Post.{most_waiting};
 ghost use Rattle.run.specs.Runs.{seen};
+ghost use Rattle.station.specs.Limits.{most_revisions};
 ghost use Rattle.stations.specs.Stations.{power_at, coordinator_at, subordinate_at};
 ghost use Rattle.std.specs.List.{slice_get};
 
@@ -46,21 +48,24 @@ impl<J: Journal, P: Presumption> Run<J, P> {
 
     /// The revision's row of the as-run log.
     pub fn as_run(&self, revision: u16) -> Option<Row>
-        ensures { result ≡ slice_get (seen J.meaning self.now).store.log revision }
+        ensures value { result ≡ slice_get (seen J.meaning self.now).store.log revision }
+        ensures few { length (seen J.meaning self.now).store.log ≤ most_revisions }
     {
         self.actor.row(revision)
     }
 
     /// How many messages wait.
     pub fn waiting(&self) -> usize
-        ensures { result ≡ length (seen J.meaning self.now).store.post }
+        ensures count { result ≡ length (seen J.meaning self.now).store.post }
+        ensures few { result ≤ most_waiting }
     {
         self.actor.waiting()
     }
 
     /// The message that waits at a place.
     pub fn message(&self, place: usize) -> Option<Message>
-        ensures { result ≡ slice_get (seen J.meaning self.now).store.post place }
+        ensures value { result ≡ slice_get (seen J.meaning self.now).store.post place }
+        ensures few { length (seen J.meaning self.now).store.post ≤ most_waiting }
     {
         self.actor.message(place)
     }
