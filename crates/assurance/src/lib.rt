@@ -30,7 +30,8 @@ fn perform_all<J: Journal, P: Presumption>(
     run: &mut Run<J, P>,
     calls: &[Call],
 ) -> Result<Vec<Result<Value, Refusal>>, AllocError>
-    ensures { IfOk result (λ xs. AllPerformed P.answers calls.now (shown J.meaning run.old) (shown J.meaning run.new) xs.items) }
+    ensures { IfOk result (λ xs. AllPerformed P.answers calls.now
+        (shown J.meaning run.old) (shown J.meaning run.new) xs.items) }
 {
     // Pushed one by one: the contract of collect does not say how it leaves a run that its closure borrows.
     let mut answers = Vec::new(heap);
@@ -49,7 +50,8 @@ pub fn play<J: Journal + Drop, P: Presumption + Drop>(
     presumption: P,
     calls: &[Call],
 ) -> Result<Played<J, P>, AllocError>
-    ensures performed { IfOk result (λ x. AllPerformed P.answers calls.now (new_run presumption (J.meaning journal)) (shown J.meaning x.run) x.answers.items) }
+    ensures performed { IfOk result (λ x. AllPerformed P.answers calls.now (new_run presumption (J.meaning journal))
+        (shown J.meaning x.run) x.answers.items) }
     ensures sound { IfOk result (λ x. fits (J.meaning journal) ≡ true → Sound (P.answers presumption) (seen J.meaning x.run)) }
     ensures outcome { OneOutcome }
     ensures marked { AllAsMarked }

@@ -68,7 +68,8 @@ impl<J: Journal, P: Presumption> Run<J, P> {
     // The coordinator of a revision gives up if it is Collecting, and chases if it is Announcing.
     fn urge(&mut self, revision: u16)
         ensures state { seen J.meaning self.new
-            ≡ urged (P.answers self.old.presumption) (coordinator_entry revision (seen J.meaning self.old)) revision (seen J.meaning self.old) }
+            ≡ urged (P.answers self.old.presumption) (coordinator_entry revision (seen J.meaning self.old))
+            revision (seen J.meaning self.old) }
         ensures presumes { self.new.presumption ≡ self.old.presumption }
     {
         match self.opened_entry(revision) {
@@ -85,7 +86,8 @@ impl<J: Journal, P: Presumption> Run<J, P> {
     // A station that is in doubt about a revision inquires.
     fn resolve(&mut self, revision: u16, station: u8)
         ensures state { seen J.meaning self.new
-            ≡ inquired (P.answers self.old.presumption) (subordinate_at (seen J.meaning self.old).stations station revision) revision station (seen J.meaning self.old) }
+            ≡ inquired (P.answers self.old.presumption) (subordinate_at (seen J.meaning self.old).stations station revision)
+            revision station (seen J.meaning self.old) }
         ensures presumes { self.new.presumption ≡ self.old.presumption }
     {
         if let SubordinateEntry::Prepared { .. } = self.stations.subordinate(station, revision) {
