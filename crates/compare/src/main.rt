@@ -64,15 +64,16 @@ fn tell_tally(rt: &HostRuntime, tally: &Tally) -> io::Result<()> {
 
 // How often each refusal came.
 fn tell_refusals(rt: &HostRuntime, tally: &Tally) -> io::Result<()> {
-    for (number, count) in tally.refused.iter() {
-        let note = if *count == 0 { " NEVER CAME" } else { "" };
+    for (refusal, count) in tally.refused {
+        let number = u8::from(refusal);
+        let note = if count == 0 { " NEVER CAME" } else { "" };
         println!(rt; "refused with {number}: {count}{note}")?;
     }
     Ok(())
 }
 
 fn main(rt: HostRuntime) -> io::Result<()> {
-    let mut player = Player::new(rt.alloc(), SEED)?;
+    let mut player = Player::new(rt.alloc(), SEED);
     match compare_all(&mut player) {
         Ok(()) => tell_tally(&rt, &player.tally),
         Err(trouble) => tell_trouble(&rt, &player.tally, trouble),

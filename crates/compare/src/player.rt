@@ -17,7 +17,7 @@ use presumption::commit::PresumedCommit;
 use run::Fuse;
 use run::run::Run;
 use station::sets::StationSet;
-use std::alloc::{AllocError, Global};
+use std::alloc::Global;
 
 /// Which presumption a list is played under.
 #[derive(Clone, Copy, PartialEq, Eq, Debug)]
@@ -123,12 +123,12 @@ pub struct Player {
 
 impl Player {
     /// Nothing played yet.
-    pub fn new(heap: Global, seed: u64) -> Result<Player, AllocError> {
-        Ok(Player {
+    pub fn new(heap: Global, seed: u64) -> Player {
+        Player {
             heap,
             dice: Dice::new(seed),
-            tally: Tally::new(heap)?,
-        })
+            tally: Tally::new(),
+        }
     }
 
     /// Plays a game over a journal and the model's picture of it. Gives the model as it was left.

@@ -1,8 +1,8 @@
 //! What either side shows, in words that both share, and what is wrong where they differ.
 use assurance::calls::Value;
-use journal::records::Record as EngineRecord;
+use journal::records::{Kind as EngineKind, Record as EngineRecord};
 use model::sets::{STATIONS, Set};
-use model::words::{Answer, Failure, Holding, Message, Outcome, Record, Row, Word};
+use model::words::{Answer, Failure, Holding, Kind, Message, Outcome, Record, Row, Word};
 use presumption::outcome::Outcome as EngineOutcome;
 use run::Row as EngineRow;
 use station::coordinator::CoordinatorEntry;
@@ -12,7 +12,7 @@ use std::alloc::{AllocError, AllocFailed};
 use std::fmt;
 
 /// One thing that a side shows. Nothing and refusals are variants, so that all that is shown is one type; sets are bytes,
-/// since each side has its own type of set, and the kind of a record is its letter.
+/// since each side has its own type of set.
 #[derive(Clone, Copy, PartialEq, Eq, Debug)]
 pub enum Seen {
     Nothing,
@@ -30,7 +30,7 @@ pub enum Seen {
     Prepared(u8),
     Posted(Message),
     Row(u8, u8, u8, u8),
-    Written(u8, u16, u8),
+    Written(Record),
     Count(usize),
     Byte(u8),
 }
@@ -155,17 +155,34 @@ impl From<u8> for Seen {
 
 impl From<EngineRecord> for Seen {
     fn from(line: EngineRecord) -> Seen {
-        Seen::Written(u8::from(line.kind), line.revision, line.argument)
+        Seen::Written(Record {
+            kind: kind_of(line.kind),
+            revision: line.revision,
+            argument: line.argument,
+        })
     }
 }
 
 impl From<Record> for Seen {
     fn from(what: Record) -> Seen {
-        Seen::Written(u8::from(what.kind), what.revision, what.argument)
+        Seen::Written(what)
     }
 }
 
-// No `From` can be written between types of two other crates, so these two are functions.
+// No `From` can be written between types of two other crates, so these three are functions.
+
+// The model's word for a kind of record.
+fn kind_of(kind: EngineKind) -> Kind {
+    match kind {
+        EngineKind::Opening => Kind::Opening,
+        EngineKind::Commit => Kind::Commit,
+        EngineKind::Abort => Kind::Abort,
+        EngineKind::End => Kind::End,
+        EngineKind::Prepared => Kind::Prepared,
+        EngineKind::Committed => Kind::Committed,
+        EngineKind::Aborted => Kind::Aborted,
+    }
+}
 
 // The model's word for an outcome.
 fn outcome_of(outcome: EngineOutcome) -> Outcome {

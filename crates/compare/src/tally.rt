@@ -2,8 +2,6 @@
 use crate::seen::Seen;
 use model::whole::Model;
 use model::words::{Call, Outage, Refusal, Verb};
-use std::alloc::{AllocError, Global};
-use std::collections::BTreeMap;
 
 /// A call with no arguments to speak of, and power that lasts.
 pub const PLAIN: Call = Call {
@@ -16,24 +14,24 @@ pub const PLAIN: Call = Call {
     outage: Outage::NEVER,
 };
 
-/// All refusals.
-const REFUSALS: [Refusal; 11] = [
-    Refusal::Unfit,
-    Refusal::NoSuchStation,
-    Refusal::NotOpened,
-    Refusal::NoPower,
-    Refusal::TooManyRevisions,
-    Refusal::EntryForbids,
-    Refusal::NoMessage,
-    Refusal::NotDark,
-    Refusal::NotServed,
-    Refusal::Full,
-    Refusal::NotARecord,
+/// All refusals, by their numbers, none of which came yet.
+const NONE_CAME: [(Refusal, usize); 11] = [
+    (Refusal::Unfit, 0),
+    (Refusal::NoSuchStation, 0),
+    (Refusal::NotOpened, 0),
+    (Refusal::NoPower, 0),
+    (Refusal::TooManyRevisions, 0),
+    (Refusal::EntryForbids, 0),
+    (Refusal::NoMessage, 0),
+    (Refusal::NotDark, 0),
+    (Refusal::NotServed, 0),
+    (Refusal::Full, 0),
+    (Refusal::NotARecord, 0),
 ];
 
-/// Counts of what agreed, each refusal's by its number; and the call at hand, its number in its list, and the last
-/// answer. Counts saturate, since nothing bounds them; no Default, since the map takes its memory from a heap.
-#[derive(Drop)]
+/// Counts of what agreed, and of each refusal; and the call at hand, its number in its list, and the last answer.
+/// Counts saturate, since nothing bounds them. The refusals are an array and no map, so counting wants no memory.
+#[derive(Clone, Copy, PartialEq, Eq, Debug)]
 pub struct Tally {
     pub examples: usize,
     pub lists: usize,
@@ -45,7 +43,7 @@ pub struct Tally {
     pub outages: usize,
     pub deeds: usize,
     pub decodings: usize,
-    pub refused: BTreeMap<u8, usize>,
+    pub refused: [(Refusal, usize); 11],
     pub number: usize,
     pub call: Call,
     pub answer: Seen,
@@ -53,12 +51,8 @@ pub struct Tally {
 
 impl Tally {
     /// Nothing compared yet.
-    pub fn new(heap: Global) -> Result<Tally, AllocError> {
-        let mut refused = BTreeMap::new(heap);
-        for refusal in REFUSALS {
-            refused.insert(u8::from(refusal), 0)?;
-        }
-        Ok(Tally {
+    pub fn new() -> Tally {
+        Tally {
             examples: 0,
             lists: 0,
             calls: 0,
@@ -69,19 +63,22 @@ impl Tally {
             outages: 0,
             deeds: 0,
             decodings: 0,
-            refused,
+            refused: NONE_CAME,
             number: 0,
             call: PLAIN,
             answer: Seen::Nothing,
-        })
+        }
     }
 
     /// Counts an answer's refusal, if it is one.
     pub fn note_refusal(&mut self, answer: Seen) {
-        if let Seen::Refused(number) = answer
-            && let Some(count) = self.refused.get_mut(&number)
-        {
-            *count = count.saturating_add(1);
+        let Seen::Refused(number) = answer else {
+            return;
+        };
+        for (refusal, count) in &mut self.refused {
+            if u8::from(*refusal) == number {
+                *count = count.saturating_add(1);
+            }
         }
     }
 

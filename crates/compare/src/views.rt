@@ -3,11 +3,12 @@ use crate::seen::{Seen, Spot, Trouble};
 use journal::calls::Journal;
 use model::sections::Log;
 use model::whole::Model;
-use model::words::Side;
+use model::words::{Entry, Side};
 use presumption::Presumption;
 use run::run::Run;
 use station::coordinator::CoordinatorEntry;
 use station::subordinate::SubordinateEntry;
+use stations::Stations;
 
 // Run and model, journal and log stay two parameters each: a comparison has two sides, and names both.
 
@@ -23,6 +24,50 @@ fn entries_of<J: Journal, P: Presumption>(run: &Run<J, P>, station: u8, opened: 
     coordinating.count().saturating_add(staging.count())
 }
 
+// An entry of the engine has what the model has there.
+fn agree_on_entry(stations: &Stations, entry: Entry, expected: Seen) -> Result<(), Trouble> {
+    let Entry {
+        station,
+        revision,
+        side,
+    } = entry;
+    let (what, engine) = match side {
+        Side::Coordinates => (
+            "coordinator entry",
+            Seen::from(stations.coordinator(station, revision)),
+        ),
+        Side::Stages => (
+            "subordinate entry",
+            Seen::from(stations.subordinate(station, revision)),
+        ),
+    };
+    let spot = Spot::of(what).at(station).place(usize::from(revision));
+    spot.agree(engine, expected)
+}
+
+// Every entry of a station, for the revisions opened and one past them: asked where the number of entries differs, to
+// tell which.
+fn agree_on_entries<J: Journal, P: Presumption>(
+    run: &Run<J, P>,
+    model: &Model,
+    station: u8,
+    opened: u16,
+) -> Result<(), Trouble> {
+    for revision in 0..=opened {
+        for side in [Side::Coordinates, Side::Stages] {
+            let entry = Entry {
+                station,
+                revision,
+                side,
+            };
+            let part = model.parts.iter().find(|part| part.entry == entry);
+            let expected = Seen::from(part.map(|part| part.holding));
+            agree_on_entry(run.stations(), entry, expected)?;
+        }
+    }
+    Ok(())
+}
+
 // Power and entries of each station: every entry of the model is the engine's too, and it has no others.
 fn agree_on_stations<J: Journal, P: Presumption>(
     run: &Run<J, P>,
@@ -32,15 +77,7 @@ fn agree_on_stations<J: Journal, P: Presumption>(
     let stations = run.stations();
     Spot::of("stations").agree(usize::from(stations.len()), usize::from(served))?;
     for part in model.parts.iter() {
-        let entry = part.entry;
-        let spot = Spot::of("entry")
-            .at(entry.station)
-            .place(usize::from(entry.revision));
-        let engine = match entry.side {
-            Side::Coordinates => Seen::from(stations.coordinator(entry.station, entry.revision)),
-            Side::Stages => Seen::from(stations.subordinate(entry.station, entry.revision)),
-        };
-        spot.agree(engine, part.holding)?;
+        agree_on_entry(stations, part.entry, Seen::from(part.holding))?;
     }
     // There are no more rows than revisions, so the other value is never taken.
     let opened = u16::try_from(model.rows.len()).unwrap_or(u16::MAX);
@@ -54,8 +91,11 @@ fn agree_on_stations<J: Journal, P: Presumption>(
             .parts
             .iter()
             .filter(|part| part.entry.station == station);
-        let entries = Spot::of("entries").at(station);
-        entries.agree(entries_of(run, station, opened), parts.count())?;
+        let (held, expected) = (entries_of(run, station, opened), parts.count());
+        if held != expected {
+            agree_on_entries(run, model, station, opened)?;
+        }
+        Spot::of("entries").at(station).agree(held, expected)?;
     }
     Ok(())
 }
