@@ -229,9 +229,14 @@ module _ (π : Presumption) (𝓛 : Laws π) where
 
   pub tidy_did : (st : Run) (r s t f k : ℕ) (Q : Rule → Type 0) (v : Run) → (st.station s).power ≡ true → SafeSt π st → Did π st r s t f k Q v → Tidy st → Tidy v
   tidy_did st r s t f k Q v on safe d h =
-      by_did π Tidy st r s t f k Q v d h
-      (λ u w _. tidy_step s f k (acts_of π u r s t) (turn_of π u r) st (tidy_rule π 𝓛 st.plan s u r t (st.station s) w on whole (h s)) h)
+      by_did π Tidy st r s t f k Q v d h (λ u w _. ruled u w)
     where
       whole : (a z : ℕ) → ((st.station s).coordinators r ≡ Open a) ⊎ ((st.station s).coordinators r ≡ Collecting a z) → a ≡ (st.plan r).names
       whole a z (inl e) = (subst (λ w. CoLegal π (world st) s r w) e (safe.cos s r)).2
       whole a z (inr e) = (subst (λ w. CoLegal π (world st) s r w) e (safe.cos s r)).2
+
+      -- an outcome is carried out by the lemma above, every other rule by its own case
+      ruled : (u : Rule) → Why π (st.station s) r t u → Tidy (step s (acts_of π u r s t) (turn_of π u r) f k st)
+      ruled (enforce commit c) w = tidy_enforced commit r s c f k st h on
+      ruled (enforce abort c) w = tidy_enforced abort r s c f k st h on
+      ruled u w = tidy_step s f k (acts_of π u r s t) (turn_of π u r) st (tidy_rule π 𝓛 st.plan s u r t (st.station s) w on whole (h s)) h
