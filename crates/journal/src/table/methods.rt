@@ -1,8 +1,8 @@
 //! The calls of a table.
 ghost use Rattle.std.specs.Prelude.{◌≡◌, ◌≤◌, [], length, replicate, vec_items, IfOk};
 ghost use Rattle.journal.specs.Limits.{table_records};
-ghost use Rattle.journal.specs.Meaning.{section_of, held, answer_of, room_answer, put_in, force_all, keep_first};
-ghost use Rattle.journal.specs.Tables.{table_of};
+ghost use Rattle.journal.specs.Meaning.{section_of, section, held, answer_of, room_answer, put_in, force_all, keep_first};
+ghost use Rattle.journal.specs.Tables.{table_of, table_room};
 ghost use Rattle.std.specs.List.{slice_get};
 ghost use Rattle.std.specs.Slice.{IsItemAt};
 
@@ -31,10 +31,11 @@ impl StationRecords {
             .try_collect(heap)
     }
 
-    // How many records there is room for.
+    // How many records there is room for: the same at each station.
     fn capacity(&self) -> usize
         ensures value { result ≡ self.now.capacity }
         ensures fits { held self.now ≤ result }
+        ensures room { result ≡ table_records }
     {
         self.records.capacity()
     }
@@ -132,7 +133,12 @@ impl Journal for Table {
         self.stations.len() as u8
     }
 
-    fn capacity(&self, station: u8) -> usize {
+    // A caller sees a table as its sections alone, so `room` says how much they have in whatever table it is handed.
+    fn capacity(&self, station: u8) -> usize
+        ensures value { result ≡ (section self.now station).capacity }
+        ensures fits { held (section self.now station) ≤ result }
+        ensures room { result ≡ table_room self.now station }
+    {
         self.at(station).map_or(0, StationRecords::capacity)
     }
 
