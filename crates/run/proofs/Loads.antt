@@ -1,5 +1,5 @@
 -- Each delivery lowers the load of the post, in every state of a fit run.
-use Rattle.std.proofs.Common.{◌≡◌, ℕ, zero, suc, ◌+◌, ◌*◌, ◌<◌, ◌≤◌, Bool, true, false, List, [], ◌∷◌, ◌++◌, map, length, get_or, take, ◌∙◌, arith}
+use Rattle.std.proofs.Common.{◌≡◌, ℕ, zero, suc, ◌+◌, ◌*◌, ◌<◌, ◌≤◌, Bool, true, false, cond, ltb, List, [], ◌∷◌, ◌++◌, map, length, get_or, take, refl, ◌∙◌, arith}
 use Rattle.actor.specs.Post.{posted, without}
 use Rattle.actor.specs.Store.{Store, done, all_done, journal_cut}
 use Rattle.presumption.specs.Answers.{Answers}
@@ -7,7 +7,7 @@ use Rattle.presumption.specs.declared.outcome.Logging.{Logging}
 use Rattle.presumption.specs.declared.outcome.Outcome.{Outcome}
 use Rattle.journal.specs.declared.records.Record.{Record}
 use Rattle.run.specs.Calls.{Reply, asked, if_allowed, turning, heard, handed, message_at, removed, deliver_call}
-use Rattle.run.specs.Settling.{weight, load, urged, inquired}
+use Rattle.run.specs.Settling.{Progress, weight, load, first_delivered, delivered, drained, urged, inquired}
 use Rattle.run.specs.State.{State, stepped}
 use Rattle.stations.specs.declared.Station.{Station}
 use Rattle.stations.specs.declared.Turn.{Turn}
@@ -147,6 +147,29 @@ module _ (π : Answers) where
 
   pub fit_first : (st : State) (f k : ℕ) → st.fit ≡ true → 0 < length st.store.post → (deliver_call π 0 false f k st).state.fit ≡ true
   fit_first st f k e h = rw (first_is st f k e h) (fit_handed (message_at 0 st) f k (removed 0 st) ∙ e)
+
+  -- while one waits, as often as the load allows: none is left
+  pub delivered_empties : (k : ℕ) (x : Progress) → x.state.fit ≡ true → load 8 x.state.store.post ≤ k → (delivered π k x).state.store.post ≡ []
+  unfolding delivered
+  delivered_empties zero x e h = none x.state.store.post h
+    where
+      none : (p : List Message) → load 8 p ≤ 0 → p ≡ []
+      none [] h = refl
+      none (m ∷ p) h = absurd (omega (arith, weight_some m.kind))
+  delivered_empties (suc k) x e h = go (ltb 0 (length x.state.store.post)) refl (λ i. delivered_empties k (first_delivered π x) (fit_first x.state 255 0 e i) (omega (arith, load_falls x.state 255 0 e i)))
+    where
+      go : (b : Bool) → ltb 0 (length x.state.store.post) ≡ b → (0 < length x.state.store.post → (delivered π k (first_delivered π x)).state.store.post ≡ []) → (cond b (delivered π k (first_delivered π x)) x).state.store.post ≡ []
+      go true q more = more (grind (arith, nat_tests))
+      go false q more = nothing x.state.store.post q
+        where
+          nothing : (p : List Message) → ltb 0 (length p) ≡ false → p ≡ []
+          nothing [] q = refl
+          nothing (m ∷ p) q = absurd (grind (arith, nat_tests))
+
+  -- a drained post is empty, in every state of a fit run
+  pub drained_empties : (x : Progress) → x.state.fit ≡ true → (drained π x).state.store.post ≡ []
+  unfolding drained
+  drained_empties x e = delivered_empties (load 8 x.state.store.post) x e (omega arith)
 
 -- one state after another: as fit, and heavier by at most n
 pub record Light (n : ℕ) (st v : State) : Type 0 where
