@@ -71,6 +71,7 @@ impl StationSet {
     }
 
     /// Is the station in the set?
+    #[tactic(auto, using(crate::proofs::Bits::contained))]
     pub fn contains(self, station: u8) -> bool
         ensures { result ≡ holds self station }
     {
@@ -94,6 +95,7 @@ impl StationSet {
     }
 
     /// The set without the station.
+    #[tactic(auto, using(crate::proofs::Bits::removed))]
     pub fn remove(self, station: u8) -> StationSet
         ensures { result ≡ without_station self station }
     {
@@ -103,6 +105,7 @@ impl StationSet {
     }
 
     /// The stations of this set that are not in the other.
+    #[tactic(auto, using(crate::proofs::Bits::clear))]
     pub fn difference(self, other: StationSet) -> StationSet
         ensures { result ≡ without_set self other }
     {
