@@ -17,7 +17,7 @@ mod wary;
 use player::Player;
 use seen::Trouble;
 use std::io;
-use tally::Tally;
+use tally::{Tally, Told};
 
 /// All calls and deeds come from this number.
 const SEED: u64 = 20_261_118;
@@ -35,8 +35,10 @@ fn tell_trouble(rt: &HostRuntime, tally: &Tally, trouble: Trouble) -> io::Result
         return rt.println("no memory");
     };
     println!(rt;
-        "DIFFERENCE in list {}, call {}: {:?}",
-        tally.lists, tally.number, tally.call
+        "DIFFERENCE in list {}, call {}: {}",
+        tally.lists,
+        tally.number,
+        Told(tally.call)
     )?;
     println!(rt; "{fault}")
 }

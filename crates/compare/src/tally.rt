@@ -2,6 +2,7 @@
 use crate::seen::Seen;
 use model::whole::Model;
 use model::words::{Call, Outage, Refusal, Verb};
+use std::fmt;
 
 /// A call with no arguments to speak of, and power that lasts.
 pub const PLAIN: Call = Call {
@@ -13,6 +14,32 @@ pub const PLAIN: Call = Call {
     copy: false,
     outage: Outage::NEVER,
 };
+
+/// A call, to be told: by its arguments, with fuse and kept number apart.
+#[derive(Clone, Copy, PartialEq, Eq, Debug)]
+pub struct Told(pub Call);
+
+impl fmt::Display for Told {
+    fn fmt<W: fmt::Write>(&self, f: &mut fmt::Formatter<W>) -> fmt::Result {
+        let Call {
+            verb,
+            revision,
+            station,
+            set,
+            place,
+            copy,
+            outage: Outage { after, kept },
+        } = self.0;
+        write!(
+            f,
+            "Call {{ verb: {verb:?}, revision: {revision}, station: {station}, set: {set}, "
+        )?;
+        write!(
+            f,
+            "place: {place}, copy: {copy}, fuse: {after}, kept: {kept} }}"
+        )
+    }
+}
 
 /// All refusals, by their numbers, none of which came yet.
 const NONE_CAME: [(Refusal, usize); 11] = [
