@@ -1,2 +1,1 @@
-pub mod FromFn
 pub mod Powers
